@@ -1,0 +1,317 @@
+-- Laws behind the operations on lent lists: the first place of a page, a list that grows at its end, marks.
+use Prim.Native.Nat.{ℕ, zero, suc, _+_, _-_, _≤_, _<_, min}
+use native.Mathlib.Nat.{zero-add, add-zero, suc-add, add-suc}
+use native.Mathlib.Numerals.{add-one}
+use native.Mathlib.Omega.{arith}
+use mathlib.Core.Path.{_≡_, refl, sym, ap, _∙_}
+use mathlib.Core.Bool.{Bool, true, false, not}
+use mathlib.Core.List.{List, [], _∷_, _++_, append-assoc, append-nil}
+use lib.Dec.{eqb, ltb, leb·suc-suc}
+use lib.Bits.{bitAnd, and-le-r}
+use mir.Val.{boolByte}
+use lib.ListN.{length, take, drop, getD, set, replicate, length-append, length-take, length-drop, length-replicate, getD-replicate, drop-of-length-le, take-append-drop}
+use lib.Seq.{drop-cons, take-suc, take-all, length-take-le, getD-set-same, getD-set-other, set-at, take-at, drop-at, getD-append-add, getD-drop}
+use borrow.Author.Tests.{eq-eqb, ne-eqb, eqb-true, eqb-false, lt-ltb, le-ltb, not-true}
+use Rattle.lists.specs.Choice.{pick, _and_, _or_}
+use Rattle.lists.specs.Pages.{mem, distinct, toEnd, erase, eraseAll, bit, count}
+use Rattle.lists.specs.Places.{place, movedToEnd, firstDropped, pasted}
+use Rattle.lists.proofs.Choice.{cases, split, clash, and-l, and-r, and-false-r, or-split, eqb-self, eqb-sym}
+use Rattle.lists.proofs.Pages.{count-snoc, count-some, count-absent, without-absent}
+
+-- The first place of a page
+
+pub place-here : (p i : ℕ) (xs : List ℕ) → i < length xs → getD xs i 0 ≡ p → i + place p (drop i xs) ≡ i
+place-here p i xs h e = rw (drop-cons xs i 0 h, eq-eqb p (getD xs i 0) (sym e)) (add-zero i)
+
+pub place-next : (p i : ℕ) (xs : List ℕ) → i < length xs → (getD xs i 0 ≡ p → ⊥) → i + place p (drop i xs) ≡ i + 1 + place p (drop (i + 1) xs)
+place-next p i xs h e =
+    rw (drop-cons xs i 0 h, ne-eqb p (getD xs i 0) (λ q. e (sym q)), add-one i) (omega arith)
+
+pub place-end : (p i : ℕ) (xs : List ℕ) → length xs ≤ i → i + place p (drop i xs) ≡ i
+place-end p i xs h = rw (drop-of-length-le xs h) (add-zero i)
+
+pub place-most : (p : ℕ) (xs : List ℕ) → place p xs ≤ length xs
+place-most p [] = omega arith
+place-most p (x ∷ xs) = cases (eqb p x) (λ e. rw e (omega arith)) (λ e. rw e (omega (arith, place-most p xs)))
+
+-- a page is in the list exactly if its place is below the length
+pub mem-place : (p : ℕ) (xs : List ℕ) → mem p xs ≡ ltb (place p xs) (length xs)
+unfolding _or_
+mem-place p [] = refl
+mem-place p (x ∷ xs) =
+    cases (eqb p x)
+    (λ e. rw e (sym (lt-ltb 0 (suc (length xs)) (omega arith))))
+    (λ e. rw e (mem-place p xs ∙ sym (leb·suc-suc (suc (place p xs)) (length xs))))
+
+-- How often a page stands in a list
+
+pub byte-one : (b : Bool) → boolByte b ≤ 1
+byte-one true = omega arith
+byte-one false = omega arith
+
+byte-bit : (b : Bool) → boolByte b ≡ bit b
+byte-bit true = refl
+byte-bit false = refl
+
+pub times-turn : (p n i : ℕ) (xs : List ℕ) → i < length xs → n ≡ count (eqb p) (take i xs)
+    → n + boolByte (eqb (getD xs i 0) p) ≡ count (eqb p) (take (i + 1) xs)
+times-turn p n i xs h e =
+    rw (add-one i, take-suc xs i 0 h, count-snoc (eqb p) (take i xs) (getD xs i 0), e, byte-bit (eqb (getD xs i 0) p), eqb-sym (getD xs i 0) p) refl
+
+-- A list that grows at its end
+
+pub mem-append : (p : ℕ) (xs ys : List ℕ) → mem p (xs ++ ys) ≡ mem p xs or mem p ys
+unfolding _or_
+mem-append p [] ys = refl
+mem-append p (x ∷ xs) ys = cases (eqb p x) (λ e. rw e refl) (λ e. rw e (mem-append p xs ys))
+
+pub distinct-snoc : (xs : List ℕ) (y : ℕ) → distinct (xs ++ (y ∷ [])) ≡ distinct xs and not (mem y xs)
+unfolding _and_ _or_
+distinct-snoc [] y = refl
+distinct-snoc (x ∷ xs) y =
+    rw (mem-append x xs (y ∷ []), distinct-snoc xs y, eqb-sym x y)
+    (cases (mem x xs) (λ m. rw m refl)
+    (λ m. rw m (cases (eqb y x) (λ e. rw e (sym (and-false-r (distinct xs) false refl))) (λ e. rw e refl))))
+
+-- a page twice in a front is a page twice in the whole
+pub distinct-front : (xs ys : List ℕ) → distinct xs ≡ false → distinct (xs ++ ys) ≡ false
+unfolding _and_ _or_
+distinct-front [] ys e = clash true refl e
+distinct-front (x ∷ xs) ys e =
+    rw (mem-append x xs ys)
+    (cases (mem x xs) (λ m. rw m refl)
+    (λ m. let e′ : distinct xs ≡ false = rw m at e in
+    rw (m, distinct-front xs ys e′) (and-false-r (not (mem x ys)) false refl)))
+
+-- Marks
+
+-- the first i pages are repeat-free, and the mark of each is set
+pub record Fresh (mask : ℕ) (marks pages : List ℕ) (i : ℕ) : Type 0 where
+  pub once : distinct (take i pages) ≡ true
+  pub marked : (q : ℕ) → mem q (take i pages) ≡ true → getD marks (bitAnd q mask) 0 ≡ 1
+
+pub fresh-none : (mask : ℕ) (marks pages : List ℕ) → Fresh mask marks pages 0
+fresh-none mask marks pages = record { once = refl; marked = λ q e. clash false e refl }
+
+module _ (mask : ℕ) (marks pages : List ℕ) (i : ℕ) (h : i < length pages) where
+  -- the next page is none of the earlier ones, and its mark is set
+  fresh-more : mask < length marks → mem (getD pages i 0) (take i pages) ≡ false → Fresh mask marks pages i
+      → Fresh mask (set marks (bitAnd (getD pages i 0) mask) 1) pages (i + 1)
+  unfolding _and_ _or_
+  fresh-more m n f =
+      let p = getD pages i 0 in
+      let b : bitAnd p mask < length marks = omega (arith, and-le-r p mask) in
+      let more : take (i + 1) pages ≡ take i pages ++ (p ∷ []) = rw (add-one i) (take-suc pages i 0 h) in
+      record {
+        once = rw (more, distinct-snoc (take i pages) p, n, f .once) refl;
+        marked = λ q e. cases (eqb (bitAnd q mask) (bitAnd p mask))
+            (λ s. rw (eqb-true (bitAnd q mask) (bitAnd p mask) s) (getD-set-same marks (bitAnd p mask) 1 0 b))
+            (λ s. getD-set-other marks (bitAnd p mask) (bitAnd q mask) 1 0 (eqb-false (bitAnd q mask) (bitAnd p mask) s)
+            ∙ f .marked q (cases (mem q (take i pages)) (λ t. t)
+            (λ t. let e′ = rw (more, mem-append q (take i pages) (p ∷ []), t) at e in
+            cases (eqb q p)
+            (λ u. absurd (eqb-false (bitAnd q mask) (bitAnd p mask) s (ap (λ (x : ℕ). bitAnd x mask) (eqb-true q p u))))
+            (λ u. clash false (rw u at e′) refl))));
+      }
+
+  -- an unset mark rules the page out
+  pub fresh-unmarked : mask < length marks → getD marks (bitAnd (getD pages i 0) mask) 0 ≡ 0 → Fresh mask marks pages i
+      → Fresh mask (set marks (bitAnd (getD pages i 0) mask) 1) pages (i + 1)
+  fresh-unmarked m z f =
+      fresh-more m
+      (cases (mem (getD pages i 0) (take i pages)) (λ t. let one = f .marked (getD pages i 0) t in absurd (omega arith)) (λ t. t))
+      f
+
+  -- so does an exact look
+  pub fresh-looked : mask < length marks → count (eqb (getD pages i 0)) (take i pages) ≡ 0 → Fresh mask marks pages i
+      → Fresh mask (set marks (bitAnd (getD pages i 0) mask) 1) pages (i + 1)
+  fresh-looked m z f =
+      let p = getD pages i 0 in
+      fresh-more m
+      (cases (mem p (take i pages)) (λ t. let one = count-some (eqb p) p (take i pages) t (eqb-self p) in absurd (omega arith)) (λ t. t))
+      f
+
+  -- or it finds the page
+  pub twice-found : (count (eqb (getD pages i 0)) (take i pages) ≡ 0 → ⊥) → distinct pages ≡ false
+  unfolding _and_
+  twice-found z =
+      let p = getD pages i 0 in
+      let m : mem p (take i pages) ≡ true = cases (mem p (take i pages)) (λ t. t) (λ t. absurd (z (count-absent p (take i pages) t))) in
+      let front : distinct (take (suc i) pages) ≡ false =
+      rw (take-suc pages i 0 h, distinct-snoc (take i pages) p, m) (and-false-r (distinct (take i pages)) false refl) in
+      rw (take-append-drop (suc i) pages) at (distinct-front (take (suc i) pages) (drop (suc i) pages) front)
+
+pub fresh-all : (mask : ℕ) (marks pages : List ℕ) (i : ℕ) → length pages ≤ i → Fresh mask marks pages i → distinct pages ≡ true
+fresh-all mask marks pages i h f = rw (take-all i pages h) at (f .once)
+
+-- Writing along a list
+
+-- the list d with its first i entries those of s
+pub over : (s d : List ℕ) → ℕ → List ℕ
+over s d i = take i s ++ drop i d
+
+pub over-none : (s d : List ℕ) → d ≡ over s d 0
+unfolding over
+over-none s d = refl
+
+pub over-is : (s d : List ℕ) (i : ℕ) → over s d i ≡ take i s ++ drop i d
+unfolding over
+over-is s d i = refl
+
+over-all : (s d : List ℕ) (i : ℕ) → length s ≤ i → length d ≤ i → over s d i ≡ s
+unfolding over
+over-all s d i hs hd = rw (take-all i s hs, drop-of-length-le d hd) (append-nil s)
+
+over-turn : (s d : List ℕ) (i : ℕ) → i < length s → i < length d → set (over s d i) i (getD s i 0) ≡ over s d (i + 1)
+unfolding over
+over-turn s d i hs hd =
+    rw (drop-cons d i 0 hd, set-at (take i s) (getD d i 0) (drop (suc i) d) (getD s i 0) i (length-take-le i s (omega arith)), add-one i)
+    (rw (take-suc s i 0 hs) (sym (append-assoc (take i s) (getD s i 0 ∷ []) (drop (suc i) d))))
+
+-- a turn that stores what s has at the place
+pub over-stored : (s d xs : List ℕ) (i v : ℕ) → xs ≡ over s d i → i < length s → i < length d → v ≡ getD s i 0
+    → set xs i v ≡ over s d (i + 1)
+over-stored s d xs i v e hs hd q = rw (e, q) (over-turn s d i hs hd)
+
+-- what is not written yet is as it was
+pub over-ahead : (s d xs : List ℕ) (i j : ℕ) → xs ≡ over s d i → i ≤ length s → i ≤ j → getD xs j 0 ≡ getD d j 0
+unfolding over
+over-ahead s d xs i j e hs h =
+    let at : j ≡ length (take i s) + (j - i) = rw (length-take-le i s hs) (omega arith) in
+    ap (λ (l : List ℕ). getD l j 0) e
+    ∙ ap (λ (x : ℕ). getD (take i s ++ drop i d) x 0) at
+    ∙ getD-append-add (take i s) (drop i d) (j - i) 0
+    ∙ getD-drop i d (j - i) 0
+    ∙ ap (λ (x : ℕ). getD d x 0) (omega arith)
+
+-- The page at a place moved to the end
+
+pub gap : (at : ℕ) → List ℕ → List ℕ
+gap at d = take at d ++ drop (suc at) d
+
+module _ (at : ℕ) (d : List ℕ) where
+  pub moved-none : length d ≤ at → d ≡ movedToEnd at d
+  moved-none h = rw (take-all at d h, drop-of-length-le d {i = suc at} (omega arith), drop-of-length-le d {i = at} h) (simp append-nil)
+
+  module _ (h : at < length d) where
+    pub gap-start : d ≡ over (gap at d) d at
+    unfolding over gap
+    gap-start = rw (take-at (take at d) (drop (suc at) d) at (length-take-le at d (omega arith))) (sym (take-append-drop at d))
+
+    length-gap : length (gap at d) ≡ length d - 1
+    unfolding gap
+    length-gap = simp (length-append, length-drop, length-take-le at d (omega arith)) (omega arith)
+
+    gap-at : (i : ℕ) → at ≤ i → getD (gap at d) i 0 ≡ getD d (i + 1) 0
+    unfolding gap
+    gap-at i g =
+        let e : i ≡ length (take at d) + (i - at) = rw (length-take-le at d (omega arith)) (omega arith) in
+        ap (λ (x : ℕ). getD (take at d ++ drop (suc at) d) x 0) e
+        ∙ getD-append-add (take at d) (drop (suc at) d) (i - at) 0
+        ∙ getD-drop (suc at) d (i - at) 0
+        ∙ ap (λ (x : ℕ). getD d x 0) (omega arith)
+
+    pub gap-turn : (xs : List ℕ) (i : ℕ) → xs ≡ over (gap at d) d i → at ≤ i → i < length d - 1
+        → set xs i (getD xs (i + 1) 0) ≡ over (gap at d) d (i + 1)
+    gap-turn xs i e g l =
+        let n = length-gap in
+        over-stored (gap at d) d xs i _ e (omega arith) (omega arith)
+        (over-ahead (gap at d) d xs i (i + 1) e (omega arith) (omega arith) ∙ sym (gap-at i g))
+
+    pub gap-closed : (xs : List ℕ) (i : ℕ) → xs ≡ over (gap at d) d i → i ≤ length d - 1 → length d - 1 ≤ i
+        → set xs (length d - 1) (getD d at 0) ≡ movedToEnd at d
+    unfolding over gap
+    gap-closed xs i e l m =
+        let n = length-gap in
+        let last : suc (length d - 1) ≡ length d = omega arith in
+        rw (e, take-all i (gap at d) (omega arith), drop-cons d i 0 (omega arith))
+        (set-at (gap at d) (getD d i 0) (drop (suc i) d) (getD d at 0) (length d - 1) n
+        ∙ rw (drop-of-length-le d {i = suc i} (omega arith), drop-cons d at 0 h) refl)
+
+-- The first n dropped
+
+pub shift-turn : (n : ℕ) (d xs : List ℕ) (i : ℕ) → xs ≡ over (drop n d) d i → i < length d - n
+    → set xs i (getD xs (i + n) 0) ≡ over (drop n d) d (i + 1)
+shift-turn n d xs i e l =
+    let m = length-drop n d in
+    over-stored (drop n d) d xs i _ e (omega arith) (omega arith)
+    (over-ahead (drop n d) d xs i (i + n) e (omega arith) (omega arith)
+    ∙ ap (λ (x : ℕ). getD d x 0) (omega arith) ∙ sym (getD-drop n d i 0))
+
+pub shift-done : (n left : ℕ) (d xs : List ℕ) (i : ℕ) → xs ≡ over (drop n d) d i → left ≡ length d - n → i ≤ left → left ≤ i
+    → xs ≡ drop n d ++ drop left d
+shift-done n left d xs i e l h g =
+    let same : left ≡ i = omega arith in
+    e ∙ over-is (drop n d) d i ∙ rw (take-all i (drop n d) (rw (length-drop n d) (omega arith)), same) refl
+
+-- Zero in every place
+
+pub zero-turn : (d xs : List ℕ) (i : ℕ) → xs ≡ over (replicate (length d) 0) d i → i < length d
+    → set xs i 0 ≡ over (replicate (length d) 0) d (i + 1)
+zero-turn d xs i e l =
+    let n = length-replicate {A = ℕ} (length d) 0 in
+    over-stored (replicate (length d) 0) d xs i 0 e (omega arith) l (sym (getD-replicate (length d) i 0 0 l))
+
+pub zero-done : (d xs : List ℕ) (i : ℕ) → xs ≡ over (replicate (length d) 0) d i → length d ≤ i → xs ≡ replicate (length d) 0
+zero-done d xs i e l =
+    e ∙ over-all (replicate (length d) 0) d i (rw (length-replicate {A = ℕ} (length d) 0) l) l
+
+-- all of them go
+pub dropped-all : (n : ℕ) (d : List ℕ) → length d ≤ n → replicate (length d) 0 ≡ firstDropped n d
+dropped-all n d h = let e : min n (length d) ≡ length d = omega arith in rw (drop-of-length-le d h, e) refl
+
+-- the places behind what was shifted become zero
+pub dropped-made : (n left : ℕ) (d s y : List ℕ) → n ≤ length d → left ≡ length d - n → s ≡ drop n d ++ drop left d
+    → y ≡ replicate (length (take (length s - left) (drop left s))) 0
+    → take left s ++ (y ++ drop (length s - left) (drop left s)) ≡ firstDropped n d
+dropped-made n left d s y h l e z =
+    let front : length (drop n d) ≡ left = length-drop n d ∙ sym l in
+    let t : take left s ≡ drop n d = rw e (take-at (drop n d) (drop left d) left front) in
+    let r : drop left s ≡ drop left d = rw e (drop-at (drop n d) (drop left d) left front) in
+    let k : length (drop left d) ≡ n = length-drop left d ∙ omega arith in
+    let m : length s - left ≡ n = rw e (simp length-append (omega arith)) in
+    let some : min n (length d) ≡ n = omega arith in
+    let y′ : y ≡ replicate n 0 = rw (m, r, length-take-le n (drop left d) (omega arith)) at z in
+    rw (t, m, r, y′, some, drop-of-length-le (drop left d) {i = n} (omega arith))
+    (ap (λ (x : List ℕ). drop n d ++ x) (append-nil (replicate n 0)))
+
+-- Pages copied over a front
+
+pub put-done : (from to xs : List ℕ) (n i : ℕ) → xs ≡ over from to i → i ≤ n → n ≤ i → xs ≡ take n from ++ drop n to
+put-done from to xs n i e h g = let same : n ≡ i = omega arith in e ∙ over-is from to i ∙ rw same refl
+
+pub pasted-whole : (from to : List ℕ) → length from ≤ length to → take (length from) from ++ drop (length from) to ≡ pasted from to
+pasted-whole from to h = rw (take-all (length from) from (omega arith), take-all (length to) from h) refl
+
+pub pasted-part : (from to : List ℕ) → length to ≤ length from → take (length to) from ++ drop (length to) to ≡ pasted from to
+pasted-part from to h = rw (drop-of-length-le to {i = length to} (omega arith), drop-of-length-le to {i = length from} h) refl
+
+-- What these leave of the length
+
+pub length-moved : (at : ℕ) (xs : List ℕ) → length (movedToEnd at xs) ≡ length xs
+length-moved at xs = simp (length-append, length-take, length-drop) (omega arith)
+
+pub length-dropped : (n : ℕ) (xs : List ℕ) → length (firstDropped n xs) ≡ length xs
+length-dropped n xs = simp (length-append, length-drop, length-replicate) (omega arith)
+
+-- LRU's words for them
+
+-- the page moved from its first place is the page moved from wherever it stands
+pub moved-toEnd : (p : ℕ) (xs : List ℕ) → distinct xs ≡ true → mem p xs ≡ true → movedToEnd (place p xs) xs ≡ toEnd p xs
+moved-toEnd p [] d m = clash false m refl
+moved-toEnd p (x ∷ xs) d m =
+    cases (eqb p x)
+    (λ e. rw (e, without-absent p xs (rw (eqb-true p x e) (not-true (mem x xs) (and-l _ _ d))))
+    (ap (λ (y : ℕ). xs ++ (y ∷ [])) (sym (eqb-true p x e))))
+    (λ e. rw e (ap (λ (r : List ℕ). x ∷ r) (moved-toEnd p xs (and-r _ _ d) (or-right (eqb p x) (mem p xs) e m))))
+  where
+    or-right : (a b : Bool) → a ≡ false → a or b ≡ true → b ≡ true
+    or-right a b e m = split (or-split a b m) (λ t. clash a t e) (λ t. t)
+
+-- the first pages taken out one by one are the first pages dropped
+pub erase-first : (n : ℕ) (xs : List ℕ) → eraseAll (take n xs) xs ≡ drop n xs
+erase-first zero xs = refl
+erase-first (suc n) [] = refl
+erase-first (suc n) (x ∷ xs) =
+    let e : erase x (x ∷ xs) ≡ xs = rw (eqb-self x) refl in
+    ap (λ (l : List ℕ). eraseAll (take n xs) l) e ∙ erase-first n xs

@@ -1,0 +1,4 @@
+pub mod Choice
+pub mod Pages
+pub mod Leaves
+pub mod Sorting

@@ -1,0 +1,34 @@
+-- `lists::moves::drop_first` meets its contract: what stays is shifted to the front, and the places behind it are filled with zero.
+use native.Mathlib.Omega.{arith}
+use mathlib.Core.Path.{_∙_}
+use Rattle.lists.proofs.Leaves.{dropped-all, dropped-made}
+use borrow.Author.Needs.{needs}
+use Rattle.lists.proofs.moves.drop_first.Statement.{statement}
+use Rattle.lists.proofs.moves.drop_first.Tie as tie
+
+returns : tie.Need-returns
+returns c =
+    let s = c .before .before .before .before .before .before in
+    c .before .before .fill-zero .ensures ∙ dropped-all (s .args .n) (s .args .pages .now) (omega arith)
+
+returns-2 : tie.Need-returns-2
+returns-2 c =
+    let s = c .before .before .before .before .before .before .before .before .before .before in
+    dropped-made (s .args .n) _ (s .args .pages .now) (c .before .before .before .before .before .before .shift .last .0) _ (omega arith) (omega arith) (c .before .before .before .before .before .before .shift .ensures) (c .before .before .fill-zero2 .ensures)
+
+pub drop-first-spec : {M : Type 1} → statement M
+drop-first-spec =
+    tie.close
+    (tie.spec
+    (λ c κs. search needs)
+    (λ c. search needs)
+    returns
+    (λ c. search needs)
+    (λ c κs. search needs)
+    (λ c. search needs)
+    (λ c. search needs)
+    (λ c. search needs)
+    (λ c. search needs)
+    (λ c κs. search needs)
+    (λ c. search needs)
+    returns-2)

@@ -1,0 +1,56 @@
+// The sizes of document 01 ("Sizes") and refusals 1 and 2, which every call that has a k and an a judges first.
+// The model itself, traces, LRU, MIN, layers and schedules, is in specs/.
+ghost use mathlib.Core.Path.{_≡_};
+ghost use Rattle.paging.specs.Refusals.{sizesRefusal};
+
+// The buffer's size k and the bundle's size a, as a call is handed them: any two numbers.
+pub struct Sizes {
+    pub k: u32,
+    pub a: u32,
+}
+
+impl Sizes {
+    // The largest k.
+    pub const K_MAX: u32 = 256;
+
+    // 1 where k is 0 or above 256, 2 where a is 0 or above k, else 0.
+    pub fn refusal(self) -> u32
+        ensures { λ r. ⌜ r ≡ sizesRefusal (self .k) (self .a) 0 ⌝ }
+    {
+        let k = self.k;
+        let a = self.a;
+        if k == 0 {
+            return 1;
+        }
+        if k > Sizes::K_MAX {
+            return 1;
+        }
+        if a == 0 {
+            return 2;
+        }
+        if a > k {
+            return 2;
+        }
+        0
+    }
+}
+
+// A counter of 32 bits: requests, loads, evictions.
+pub struct Counter {
+    pub count: u32,
+}
+
+impl Counter {
+    // At this many requests a further one is refused (12).
+    pub const MAX: u32 = 4294967295;
+}
+
+// A trace that MIN or the judge is handed, by its number of requests.
+pub struct Trace {
+    pub requests: usize,
+}
+
+impl Trace {
+    // The most requests of such a trace.
+    pub const LONGEST: usize = 65536;
+}

@@ -1,0 +1,14 @@
+pub mod Table
+pub mod Bundles
+pub mod Orders
+pub mod LayerSteps
+pub mod Layers
+pub mod Schedules
+pub mod Optimal
+pub mod Best
+pub mod Possible
+pub mod Phases
+pub mod Factor
+pub mod Trailing
+pub mod Lru
+pub mod Counterexamples

@@ -1,0 +1,4 @@
+pub mod Farthest
+pub mod Loads
+pub mod Possible
+pub mod Factor
