@@ -1,0 +1,52 @@
+-- `records::put::list` meets its contract: after i turns the first i pages stand behind the fixed fields, and nothing else has changed.
+use Prim.Native.Nat.{_≤_, _-_}
+use mathlib.Core.Path.{_≡_, refl}
+use native.Mathlib.Omega.{arith}
+use lib.ListN.{length, take}
+use Rattle.wire.specs.Numbers.{allBytes32, placed}
+use Rattle.records.proofs.Writing.{none-placed, page-placed, all-placed}
+use borrow.Author.Needs.{needs}
+use Rattle.records.proofs.put.list.Statement.{statement}
+use Rattle.records.proofs.put.list.Tie as tie
+
+abbrev Inv-loop : tie.InvT-loop
+Inv-loop rest₀ pages i₀ rest i = (i ≤ length pages) × ((length rest ≡ length rest₀) × (rest ≡ placed rest₀ 8 (allBytes32 (take i pages))))
+
+abbrev μ-loop : tie.MeasureT-loop
+μ-loop rest₀ pages i₀ rest i = length pages - i
+
+loop-holds : tie.Need-loop-holds Inv-loop μ-loop
+loop-holds c = (omega arith, (refl, none-placed _))
+
+loop-again : tie.Need-loop-again Inv-loop μ-loop
+loop-again c =
+    let a = c .before .before .before .before .before .before .before .before .before .args in
+    let q = page-placed (a .rest .now) (a .pages .now) (c .before .before .before .before .before .before .loop .rest)
+    (c .before .before .write32 .last .0) (c .before .before .before .before .before .before .loop .i)
+    (c .before .before .before .before .before .loop-test .taken) (c .before .before .before .before .before .before .before .before .before .pre)
+    (c .before .before .before .before .before .before .loop .inv .1 .1) (c .before .before .write32 .ensures) in
+    (omega arith, q)
+
+returns : tie.Need-returns Inv-loop μ-loop
+returns c =
+    let a = c .before .before .before .before .args in
+    all-placed (a .rest .now) (a .pages .now) (c .before .loop .rest) (c .before .loop .i) (c .before .loop .inv .0) (c .loop-test .left)
+    (c .before .loop .inv .1 .1)
+
+pub list-spec : {M : Type 1} → statement M
+list-spec =
+    tie.close
+    (tie.spec
+    Inv-loop
+    μ-loop
+    loop-holds
+    (λ c. search needs)
+    (λ c. search needs)
+    (λ c. search needs)
+    (λ c. search needs)
+    (λ c κs. search needs)
+    (λ c. search needs)
+    (λ c. search needs)
+    loop-again
+    (λ c. search needs)
+    returns)

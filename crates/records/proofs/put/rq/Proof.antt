@@ -1,0 +1,27 @@
+-- `records::put::rq` meets its contract: two stores, one behind the other, are the record.
+use mathlib.Core.Path.{refl}
+use mathlib.Core.Bool.{false}
+use Rattle.wire.specs.Numbers.{bytes16, bytes32}
+use Rattle.records.specs.Marks.{markRQ}
+use Rattle.records.specs.Bytes.{rqBytes}
+use Rattle.records.proofs.Writing.{put-short, put-whole, stored2}
+use native.Mathlib.Omega.{arith}
+use borrow.Author.Needs.{needs}
+use Rattle.records.proofs.put.rq.Statement.{statement}
+use Rattle.records.proofs.put.rq.Tie as tie
+
+returns : tie.Need-returns
+returns c =
+    let a = c .before .before .args in
+    put-short (rqBytes (a .page)) (a .rest .now) false refl (c .if1 .taken)
+
+returns-2 : tie.Need-returns-2
+returns-2 c =
+    let a = c .before .before .before .before .before .before .before .before .before .before .args in
+    put-whole (rqBytes (a .page)) (a .rest .now) _ _ false refl refl (c .before .before .before .before .before .before .before .before .if1 .left)
+    (stored2 (a .rest .now) (bytes16 markRQ) (bytes32 (a .page)) (c .before .before .before .before .before .before .write16 .last .0)
+    (c .before .before .write32 .last .0) (omega arith) (c .before .before .before .before .before .before .write16 .ensures)
+    (c .before .before .write32 .ensures))
+
+pub rq-spec : {M : Type 1} → statement M
+rq-spec = tie.close (tie.spec returns (λ c κs. search needs) (λ c κs. search needs) (λ c. search needs) returns-2)

@@ -1,0 +1,88 @@
+// The writers (document 01, "Files"): each record into lent bytes from an offset on. Own refusals first, then 9, then 8.
+ghost use mathlib.Core.Path.{_≡_};
+ghost use Prim.Native.Nat.{_-_};
+ghost use lib.Dec.{ltb};
+ghost use Rattle.paging.specs.Refusals.{refuse};
+ghost use Rattle.records.specs.Bytes.{kaBytes, rqBytes, evBytes, pfBytes};
+ghost use Rattle.records.specs.Writing.{kaRefusal, rqRefusal, evRefusal, pfRefusal, wrote, outAfter};
+ghost use Rattle.records.specs.Answers.{writtenNumbers};
+use crate::length;
+use crate::put;
+
+pub enum Written {
+    // The offset behind the record.
+    Next(usize),
+    Refused(u32),
+}
+
+pub fn ka(out: &mut [u8], at: usize, k: u32, a: u32) -> Written
+    ensures { λ r. ⌜ (writtenNumbers r ≡ wrote (kaRefusal k a (now (out .entry)) at) (kaBytes k a) at)
+        × (now (out .exit) ≡ outAfter (kaRefusal k a (now (out .entry)) at) (kaBytes k a) (now (out .entry)) at) ⌝ }
+{
+    let own = paging::Sizes { k, a }.refusal();
+    if own != 0 {
+        return Written::Refused(own);
+    }
+    let no = room(out.len(), at, length::KA);
+    if no != 0 {
+        return Written::Refused(no);
+    }
+    let size = put::ka(&mut out[at..], k as u16, a as u16);
+    Written::Next(at + size)
+}
+
+pub fn rq(out: &mut [u8], at: usize, page: u32) -> Written
+    ensures { λ r. ⌜ (writtenNumbers r ≡ wrote (rqRefusal page (now (out .entry)) at) (rqBytes page) at)
+        × (now (out .exit) ≡ outAfter (rqRefusal page (now (out .entry)) at) (rqBytes page) (now (out .entry)) at) ⌝ }
+{
+    let no = room(out.len(), at, length::RQ);
+    if no != 0 {
+        return Written::Refused(no);
+    }
+    let size = put::rq(&mut out[at..], page);
+    Written::Next(at + size)
+}
+
+pub fn ev(out: &mut [u8], at: usize, t: u32, pages: &[u32]) -> Written
+    ensures { λ r. ⌜ (writtenNumbers r ≡ wrote (evRefusal t (now (pages .entry)) (now (out .entry)) at) (evBytes t (now (pages .entry))) at)
+        × (now (out .exit) ≡ outAfter (evRefusal t (now (pages .entry)) (now (out .entry)) at) (evBytes t (now (pages .entry))) (now (out .entry)) at) ⌝ }
+{
+    let n = pages.len();
+    if n == 0 {
+        return Written::Refused(6);
+    }
+    if n > length::PAGES_MAX {
+        return Written::Refused(6);
+    }
+    let no = room(out.len(), at, length::ev_length(n));
+    if no != 0 {
+        return Written::Refused(no);
+    }
+    let size = put::ev(&mut out[at..], t, pages);
+    Written::Next(at + size)
+}
+
+pub fn pf(out: &mut [u8], at: usize, t: u32, page: u32) -> Written
+    ensures { λ r. ⌜ (writtenNumbers r ≡ wrote (pfRefusal t page (now (out .entry)) at) (pfBytes t page) at)
+        × (now (out .exit) ≡ outAfter (pfRefusal t page (now (out .entry)) at) (pfBytes t page) (now (out .entry)) at) ⌝ }
+{
+    let no = room(out.len(), at, length::PF);
+    if no != 0 {
+        return Written::Refused(no);
+    }
+    let size = put::pf(&mut out[at..], t, page);
+    Written::Next(at + size)
+}
+
+// A record of `size` bytes is to go into `len` lent bytes from `at` on: 9, then 8, else 0.
+fn room(len: usize, at: usize, size: usize) -> u32
+    ensures { λ r. ⌜ r ≡ refuse (ltb len at) 9 (refuse (ltb (len - at) size) 8 0) ⌝ }
+{
+    if at > len {
+        return 9;
+    }
+    if len - at < size {
+        return 8;
+    }
+    0
+}

@@ -1,0 +1,22 @@
+-- `wire::read16` meets its contract: the sum of the two bytes that it read is the number at the offset.
+use native.Mathlib.Omega.{arith}
+use Rattle.wire.proofs.Numbers.{num16-at}
+use borrow.Author.Needs.{needs}
+use Rattle.wire.proofs.read16.Statement.{statement}
+use Rattle.wire.proofs.read16.Tie as tie
+
+returns : tie.Need-returns
+returns c = omega (arith, num16-at (c .before .before .before .before .before .args .s .now) (c .before .before .before .before .before .args .at), c .before .before .wide16 .ensures, c .wide162 .ensures)
+
+pub read16-spec : {M : Type 1} → statement M
+read16-spec =
+    tie.close
+    (tie.spec
+    (λ c. search needs)
+    (λ c κs. search needs)
+    (λ c. search needs)
+    (λ c. search needs)
+    (λ c κs. search needs)
+    (λ c. search needs)
+    (λ c. search needs)
+    returns)
