@@ -1,0 +1,4 @@
+pub mod Laying
+pub mod Served
+pub mod Refusals
+pub mod Steps

@@ -1,0 +1,199 @@
+-- The refusals: each test of the code is a condition of the list, and where none holds the state is ready.
+use Prim.Native.Nat.{ℕ, _≤_, _<_}
+use native.Mathlib.Omega.{arith}
+use mathlib.Core.Path.{_≡_, refl, sym, ap, _∙_}
+use mathlib.Core.Bool.{Bool, true, false, not}
+use mathlib.Core.List.{List}
+use lib.Dec.{eqb, leb, ltb}
+use lib.ListN.{length, take}
+use borrow.Author.Tests.{eq-eqb, ne-eqb, eqb-true, eqb-false, lt-ltb, le-ltb, ltb-true, ltb-false, le-leb, lt-leb, leb-true, leb-false, not-true, not-false}
+use Rattle.lists.specs.Choice.{pick, _and_, _or_}
+use Rattle.lists.specs.Pages.{distinct}
+use Rattle.lists.proofs.Choice.{tests, cases, split, clash, and-l, and-r, and-i, and-false-l, and-false-r, or-l, or-r, or-none, or-none-l, or-none-r}
+use Rattle.paging.specs.Refusals.{refuse, sizesRefusal}
+use Rattle.lru.specs.declared.Run.{Run}
+use Rattle.lru.specs.declared.Reply.{Reply}
+use Rattle.lru.specs.Serving.{emptyRun}
+use Rattle.lru.specs.Refusing.{wellFormed, requestRefusal, replyOf, cacheOf, evictedOf, traceRefusal, totalsOf}
+use Rattle.lru.specs.Ready.{Ready, TraceReady}
+use Rattle.lru.specs.Standing.{runOver}
+use Rattle.lru.proofs.Served.{Served}
+
+-- a condition that does not hold, where its number is not 0
+pub passed : (test : Bool) (number rest : ℕ) → 1 ≤ number → refuse test number rest ≡ 0 → (test ≡ false) × (rest ≡ 0)
+passed true number rest h e = absurd (omega arith)
+passed false number rest h e = (refl, e)
+
+-- k and a as document 01 has them
+pub record Sized (k a : ℕ) : Type 0 where
+  pub k-least : 1 ≤ k
+  pub k-most : k ≤ 256
+  pub a-least : 1 ≤ a
+  pub a-most : a ≤ k
+
+module _ (k a : ℕ) where
+  pub sizes-some : (rest : ℕ) → (sizesRefusal k a 0 ≡ 0 → ⊥) → sizesRefusal k a 0 ≡ sizesRefusal k a rest
+  unfolding sizesRefusal
+  sizes-some rest n =
+      cases (eqb k 0 or ltb 256 k) (λ t. rw t refl)
+      (λ t. cases (eqb a 0 or ltb k a) (λ u. rw (t, u) refl) (λ u. absurd (n (rw (t, u) refl))))
+
+  pub sizes-none : (rest : ℕ) → sizesRefusal k a 0 ≡ 0 → sizesRefusal k a rest ≡ rest
+  unfolding sizesRefusal
+  sizes-none rest e =
+      let one = passed (eqb k 0 or ltb 256 k) 1 _ (omega arith) e in
+      let two = passed (eqb a 0 or ltb k a) 2 _ (omega arith) (one .1) in
+      rw (one .0, two .0) refl
+
+  pub sizes-rest : (rest : ℕ) → sizesRefusal k a rest ≡ 0 → (Sized k a) × (rest ≡ 0)
+  unfolding sizesRefusal
+  sizes-rest rest e =
+      let one = passed (eqb k 0 or ltb 256 k) 1 _ (omega arith) e in
+      let two = passed (eqb a 0 or ltb k a) 2 _ (omega arith) (one .1) in
+      let k0 = or-none-l _ _ (one .0) in
+      let km = or-none-r _ _ (one .0) in
+      let a0 = or-none-l _ _ (two .0) in
+      let am = or-none-r _ _ (two .0) in
+      (record { k-least = omega tests; k-most = omega tests; a-least = omega tests; a-most = omega tests }, two .1)
+
+  pub sizes-sized : (rest : ℕ) → Sized k a → sizesRefusal k a rest ≡ rest
+  unfolding sizesRefusal _or_
+  sizes-sized rest s =
+      rw (ne-eqb k 0 (λ e. absurd (omega arith)), le-ltb 256 k (s .k-most), ne-eqb a 0 (λ e. absurd (omega arith)), le-ltb k a (s .a-most)) refl
+
+module _ (run : Run) (count : ℕ) (cache evicted : List ℕ) where
+  -- no refusal
+  pub ready-of : requestRefusal run count cache evicted ≡ 0 → Ready run count cache evicted
+  unfolding requestRefusal wellFormed
+  ready-of e =
+      let sizes = sizes-rest (run .k) (run .a) _ e in
+      let sized = sizes .0 in
+      let eight = passed (ltb (length cache) (run .k) or ltb (length evicted) (run .a)) 8 _ (omega arith) (sizes .1) in
+      let nine = passed (not (wellFormed run count cache)) 9 _ (omega arith) (eight .1) in
+      let twelve = passed (eqb (run .requests) 4294967295) 12 0 (omega arith) (nine .1) in
+      let well : wellFormed run count cache ≡ true = not-false _ (nine .0) in
+      let c = or-none-l _ _ (eight .0) in
+      let v = or-none-r _ _ (eight .0) in
+      let w1 = and-l _ _ well in
+      let w2 = and-l _ _ (and-r _ _ well) in
+      let w3 = and-l _ _ (and-r _ _ (and-r _ _ well)) in
+      let w4 = and-r _ _ (and-r _ _ (and-r _ _ well)) in
+      record {
+        a-least = sized .a-least;
+        a-most = sized .a-most;
+        k-most = sized .k-most;
+        cache-room = omega tests;
+        evicted-room = omega tests;
+        count-most = omega tests;
+        evictions-most = omega tests;
+        loads-most = omega tests;
+        once = w4;
+        further = eqb-false _ _ (twelve .0);
+      }
+
+  -- each return of the code
+
+  pub number-sizes : (n : ℕ) → n ≡ sizesRefusal (run .k) (run .a) 0 → (n ≡ 0 → ⊥) → n ≡ requestRefusal run count cache evicted
+  unfolding requestRefusal
+  number-sizes n e z = e ∙ sizes-some (run .k) (run .a) _ (λ q. z (e ∙ q))
+
+  module _ (n : ℕ) (sz : n ≡ sizesRefusal (run .k) (run .a) 0) (z : n ≡ 0) where
+    pub number-cache : length cache < run .k → 8 ≡ requestRefusal run count cache evicted
+    unfolding requestRefusal _or_
+    number-cache h = sym (sizes-none (run .k) (run .a) _ (sym sz ∙ z) ∙ rw (lt-ltb _ _ h) refl)
+
+    module _ (hc : run .k ≤ length cache) where
+      pub number-evicted : length evicted < run .a → 8 ≡ requestRefusal run count cache evicted
+      unfolding requestRefusal _or_
+      number-evicted h = sym (sizes-none (run .k) (run .a) _ (sym sz ∙ z) ∙ rw (le-ltb _ _ hc, lt-ltb _ _ h) refl)
+
+      module _ (he : run .a ≤ length evicted) where
+        rest-is : requestRefusal run count cache evicted
+            ≡ refuse (not (wellFormed run count cache)) 9 (refuse (eqb (run .requests) 4294967295) 12 0)
+        unfolding requestRefusal _or_
+        rest-is = sizes-none (run .k) (run .a) _ (sym sz ∙ z) ∙ rw (le-ltb _ _ hc, le-ltb _ _ he) refl
+
+        pub number-ill : wellFormed run count cache ≡ false → 9 ≡ requestRefusal run count cache evicted
+        number-ill w = sym (rest-is ∙ rw w refl)
+
+        pub number-last : wellFormed run count cache ≡ true → run .requests ≡ 4294967295 → 12 ≡ requestRefusal run count cache evicted
+        number-last w h = sym (rest-is ∙ rw (w, eq-eqb _ _ h) refl)
+
+        pub number-none : wellFormed run count cache ≡ true → (run .requests ≡ 4294967295 → ⊥) → 0 ≡ requestRefusal run count cache evicted
+        number-none w h = sym (rest-is ∙ rw (w, ne-eqb _ _ h) refl)
+
+  -- well formed or not
+
+  pub ill-count : run .k < count → wellFormed run count cache ≡ false
+  unfolding wellFormed
+  ill-count h = and-false-l _ _ (lt-leb _ _ h)
+
+  pub ill-evictions : run .loads < run .evictions → wellFormed run count cache ≡ false
+  unfolding wellFormed
+  ill-evictions h = and-false-r _ _ (and-false-l _ _ (lt-leb _ _ h))
+
+  pub ill-loads : run .requests < run .loads → wellFormed run count cache ≡ false
+  unfolding wellFormed
+  ill-loads h = and-false-r _ _ (and-false-r _ _ (and-false-l _ _ (lt-leb _ _ h)))
+
+  pub ill-twice : distinct (take count cache) ≡ false → wellFormed run count cache ≡ false
+  unfolding wellFormed
+  ill-twice h = and-false-r _ _ (and-false-r _ _ (and-false-r _ _ h))
+
+  pub well : count ≤ run .k → run .evictions ≤ run .loads → run .loads ≤ run .requests → distinct (take count cache) ≡ true
+      → wellFormed run count cache ≡ true
+  unfolding wellFormed
+  well a b c d = and-i _ _ (le-leb _ _ a) (and-i _ _ (le-leb _ _ b) (and-i _ _ (le-leb _ _ c) d))
+
+-- The answer and the lists
+
+-- what the call promises
+abbrev pub Answered : (run : Run) (count : ℕ) (cache evicted : List ℕ) (page : ℕ) → Reply → (y v : List ℕ) → Type 0
+Answered run count cache evicted page reply y v =
+    (reply ≡ replyOf run count cache evicted page)
+    × ((y ≡ cacheOf run count cache evicted page) × (v ≡ evictedOf run count cache evicted page))
+
+module _ (run : Run) (count : ℕ) (cache evicted : List ℕ) (page : ℕ) where
+  pub answer-refused : (n : ℕ) (r : Run) → n ≡ requestRefusal run count cache evicted → (n ≡ 0 → ⊥) → r ≡ emptyRun 0 0
+      → Answered run count cache evicted page (record { refusal = n; run = r; count = 0; answer = 0 }) cache evicted
+  answer-refused n r e z q =
+      (rw (← e, ne-eqb n 0 z, q) refl, (rw (← e, ne-eqb n 0 z) refl, rw (← e, ne-eqb n 0 z) refl))
+
+  pub answer-accepted : (reply : Reply) (y v : List ℕ) → requestRefusal run count cache evicted ≡ 0
+      → Served run count cache evicted page reply y v → Answered run count cache evicted page reply y v
+  answer-accepted reply y v e s = rw e s
+
+-- A whole trace
+
+module _ (k a : ℕ) (trace : List ℕ) where
+  pub trace-sizes : (n : ℕ) → n ≡ sizesRefusal k a 0 → (n ≡ 0 → ⊥) → n ≡ traceRefusal k a trace
+  unfolding traceRefusal
+  trace-sizes n e z = e ∙ sizes-some k a _ (λ q. z (e ∙ q))
+
+  pub trace-long : (n : ℕ) → n ≡ sizesRefusal k a 0 → n ≡ 0 → 65536 < length trace → 3 ≡ traceRefusal k a trace
+  unfolding traceRefusal
+  trace-long n e z h = sym (sizes-none k a _ (sym e ∙ z) ∙ rw (lt-ltb _ _ h) refl)
+
+  pub trace-none : (n : ℕ) → n ≡ sizesRefusal k a 0 → n ≡ 0 → length trace ≤ 65536 → 0 ≡ traceRefusal k a trace
+  unfolding traceRefusal
+  trace-none n e z h = sym (sizes-none k a _ (sym e ∙ z) ∙ rw (le-ltb _ _ h) refl)
+
+  pub trace-ready : traceRefusal k a trace ≡ 0 → TraceReady k a trace
+  unfolding traceRefusal
+  trace-ready e =
+      let sizes = sizes-rest k a _ e in
+      let three = passed (ltb 65536 (length trace)) 3 0 (omega arith) (sizes .1) in
+      record {
+        a-least = sizes .0 .a-least;
+        a-most = sizes .0 .a-most;
+        k-most = sizes .0 .k-most;
+        trace-most = ltb-false _ _ (three .0);
+      }
+
+  pub totals-refused : (n : ℕ) → n ≡ traceRefusal k a trace → (n ≡ 0 → ⊥)
+      → record { refusal = n; bundles = 0; loads = 0 } ≡ totalsOf k a trace
+  totals-refused n e z = rw (← e, ne-eqb n 0 z) refl
+
+  pub totals-served : (run : Run) → traceRefusal k a trace ≡ 0 → run ≡ runOver k a trace
+      → record { refusal = 0; bundles = run .evictions; loads = run .loads } ≡ totalsOf k a trace
+  totals-served run z e = rw (z, e) refl

@@ -1,0 +1,269 @@
+-- One step of a list of calls: a state that stands for a trace is never refused for what it is, and after an accepted request it
+-- stands for the trace with that page behind it.
+use Prim.Native.Nat.{ℕ, zero, suc, _+_, _-_, _≤_, _<_}
+use native.Mathlib.Nat.{add-zero}
+use native.Mathlib.Omega.{arith}
+use mathlib.Core.Path.{_≡_, refl, sym, ap, _∙_}
+use mathlib.Core.Bool.{Bool, true, false, not}
+use mathlib.Core.List.{List, [], _∷_, _++_, append-assoc, append-nil}
+use lib.Dec.{eqb, ltb}
+use native.Mathlib.Numerals.{add-one}
+use lib.ListN.{length, take, drop, getD, replicate, length-append, length-drop}
+use lib.Seq.{take-at, take-suc, take-all, length-take-le}
+use borrow.Author.Tests.{eq-eqb, eqb-true, ltb-true, ltb-false, ne-eqb, le-ltb, leb-true}
+use Rattle.lists.specs.Choice.{pick, _and_, _or_}
+use Rattle.lists.specs.Pages.{mem, toEnd, eraseAll, distinct, count, bit}
+use Rattle.lists.proofs.Choice.{cases, clash, and-l, and-r, or-none}
+use Rattle.lists.proofs.Pages.{count-append, Once, distinct-once, once-distinct, once-snoc, once-toEnd, once-eraseAll, mem-eraseAll, toEnd-same, length-same}
+use Rattle.lists.proofs.Leaves.{erase-first}
+use Rattle.paging.specs.Refusals.{refuse}
+use Rattle.paging.specs.Policy.{Kind, hit, load, bundled, kindOf, isLoad, isBundled, serve, holds, kinds, bundleCount, loadCount}
+use Rattle.paging.specs.Lru.{lruRule}
+use Rattle.paging.proofs.Runs.{holds-append, kinds-append, lru-holds-any, lru-kinds-any}
+use Rattle.lru.specs.declared.Run.{Run}
+use Rattle.lru.specs.declared.Reply.{Reply}
+use Rattle.lru.specs.declared.Totals.{Totals}
+use Rattle.lru.specs.Serving.{emptyRun, heldAfter, kindIn, laid, countedRun, runServed, cacheServed, replyServed}
+use Rattle.lru.specs.Refusing.{requestRefusal, wellFormed, replyOf, cacheOf, traceRefusal, totalsOf}
+use Rattle.lru.specs.Ready.{Ready, TraceReady}
+use Rattle.lru.specs.Standing.{runOver, Stands, Call, State, emptyState, accepts, afterCall, called, afterCalls, acceptedPages, pagesOf, roomy}
+use Rattle.lru.proofs.Refusals.{Sized, sizes-sized, ready-of, well, trace-ready, totals-served}
+use Rattle.lru.proofs.Laying.{length-laid}
+
+-- Serving keeps the pages held well formed
+
+module _ (k a p : ℕ) (held : List ℕ) (d : distinct held ≡ true) (l : length held ≤ k) (least : 1 ≤ a) (most : a ≤ k) where
+  serve-once : distinct (serve (lruRule a) k p [] held) ≡ true
+  serve-once =
+      let o : Once held = distinct-once held d in
+      cases (mem p held)
+      (λ m. rw m (once-distinct (toEnd p held) (once-toEnd p held o)))
+      (λ m. rw m (cases (ltb (length held) k)
+      (λ t. rw t (once-distinct (held ++ (p ∷ [])) (once-snoc p held o m)))
+      (λ t. rw t (once-distinct (eraseAll (take a held) held ++ (p ∷ [])) (once-snoc p (eraseAll (take a held) held) (once-eraseAll (take a held) held o)
+      (cases (mem p (eraseAll (take a held) held)) (λ n. clash (mem p held) (mem-eraseAll p (take a held) held n) m) (λ n. n)))))))
+
+  serve-most : length (serve (lruRule a) k p [] held) ≤ k
+  serve-most =
+      let o : Once held = distinct-once held d in
+      cases (mem p held)
+      (λ m. rw m (let s = length-same (toEnd p held) held (toEnd-same p held m (o p)) in omega arith))
+      (λ m. rw m (cases (ltb (length held) k)
+      (λ t. rw t (let b : length held < k = ltb-true _ _ t in simp length-append (omega arith)))
+      (λ t. rw (t, erase-first a held) (let b : k ≤ length held = ltb-false _ _ t in simp (length-append, length-drop) (omega arith)))))
+
+-- a bundle comes with a load, and a request with at most one
+bundle-loads : (kind : Kind) → bit (isBundled kind) ≤ bit (isLoad kind)
+bundle-loads hit = omega arith
+bundle-loads load = omega arith
+bundle-loads bundled = omega arith
+
+loads-one : (kind : Kind) → bit (isLoad kind) ≤ 1
+loads-one hit = omega arith
+loads-one load = omega arith
+loads-one bundled = omega arith
+
+-- The model over one more request
+
+module _ (k a p : ℕ) (trace : List ℕ) where
+  pub holds-snoc : holds (lruRule a) k (trace ++ (p ∷ [])) [] [] ≡ serve (lruRule a) k p [] (holds (lruRule a) k trace [] [])
+  holds-snoc =
+      holds-append (lruRule a) k trace (p ∷ []) [] []
+      ∙ ap (λ (h : List ℕ). serve (lruRule a) k p [] h) (lru-holds-any a k trace (p ∷ []) [] [])
+
+  kinds-snoc : kinds (lruRule a) k (trace ++ (p ∷ [])) [] []
+      ≡ kinds (lruRule a) k trace [] [] ++ (kindOf k p (holds (lruRule a) k trace [] []) ∷ [])
+  kinds-snoc =
+      kinds-append (lruRule a) k trace (p ∷ []) [] []
+      ∙ rw (lru-holds-any a k trace (p ∷ []) [] [], lru-kinds-any a k trace (p ∷ []) [] []) refl
+
+  counts-snoc : (f : Kind → Bool) → count f (kinds (lruRule a) k (trace ++ (p ∷ [])) [] [])
+      ≡ count f (kinds (lruRule a) k trace [] []) + bit (f (kindOf k p (holds (lruRule a) k trace [] [])))
+  counts-snoc f =
+      ap (count f) kinds-snoc
+      ∙ count-append f (kinds (lruRule a) k trace [] []) _
+      ∙ ap (λ (x : ℕ). count f (kinds (lruRule a) k trace [] []) + x) (add-zero _)
+
+-- The start
+
+pub stands-empty : (k a : ℕ) (cache : List ℕ) → 1 ≤ a → a ≤ k → k ≤ 256 → Stands k a [] (emptyRun k a) 0 cache
+stands-empty k a cache least most k-most =
+    record {
+      record-is = refl;
+      held-is = refl;
+      count-is = refl;
+      a-least = least;
+      a-most = most;
+      k-most = k-most;
+      count-most = omega arith;
+      once = refl;
+      evictions-most = omega arith;
+      loads-most = omega arith;
+    }
+
+module _ {k a : ℕ} {trace : List ℕ} {run : Run} {count : ℕ} {cache : List ℕ} (s : Stands k a trace run count cache) where
+  k-is : run .k ≡ k
+  k-is = ap (λ (r : Run). r .k) (s .record-is)
+
+  a-is : run .a ≡ a
+  a-is = ap (λ (r : Run). r .a) (s .record-is)
+
+  -- No refusal for the state: 8 is about the lent lists, 12 about the counter
+
+  pub stands-refusal : (evicted : List ℕ) → requestRefusal run count cache evicted
+      ≡ refuse (ltb (length cache) k or ltb (length evicted) a) 8 (refuse (eqb (length trace) 4294967295) 12 0)
+  unfolding requestRefusal
+  stands-refusal evicted =
+      let w = well run count cache evicted (rw k-is (s .count-most)) (s .evictions-most) (s .loads-most) (s .once) in
+      let z : Sized (run .k) (run .a) =
+      rw (k-is, a-is) (record { k-least = omega arith; k-most = s .k-most; a-least = s .a-least; a-most = s .a-most }) in
+      sizes-sized (run .k) (run .a) _ z ∙ rw (w, s .record-is) refl
+
+  -- An accepted request
+
+  pub stands-served : (p : ℕ) → k ≤ length cache
+      → Stands k a (trace ++ (p ∷ [])) (runServed (kindIn run count cache p) run) (length (heldAfter run count cache p)) (cacheServed run count cache p)
+  stands-served p room =
+      let H = holds (lruRule a) k trace [] [] in
+      let after : heldAfter run count cache p ≡ serve (lruRule a) k p [] H = rw (k-is, a-is, s .held-is) refl in
+      let kind : kindIn run count cache p ≡ kindOf k p H = rw (k-is, s .held-is) refl in
+      let held : take (length (heldAfter run count cache p)) (cacheServed run count cache p) ≡ heldAfter run count cache p =
+      rw (append-assoc (heldAfter run count cache p) (replicate (run .k - length (heldAfter run count cache p)) 0) (drop (run .k) cache))
+      (take-at (heldAfter run count cache p) _ _ refl) in
+      let d : distinct H ≡ true = rw (← s .held-is) (s .once) in
+      let n : length H ≤ k = rw (← s .count-is) (s .count-most) in
+      record {
+        record-is =
+            rw kind
+            (ap (λ (r : Run). runServed (kindOf k p H) r) (s .record-is)
+            ∙ rw (length-append trace (p ∷ []), counts-snoc k a p trace isLoad, counts-snoc k a p trace isBundled) refl);
+        held-is = held ∙ after ∙ sym (holds-snoc k a p trace);
+        count-is = ap length (after ∙ sym (holds-snoc k a p trace));
+        a-least = s .a-least;
+        a-most = s .a-most;
+        k-most = s .k-most;
+        count-most = rw after (serve-most k a p H d n (s .a-least) (s .a-most));
+        once = rw (held, after) (serve-once k a p H d n (s .a-least) (s .a-most));
+        evictions-most = omega (arith, s .evictions-most, bundle-loads (kindIn run count cache p));
+        loads-most = omega (arith, s .loads-most, loads-one (kindIn run count cache p));
+      }
+
+  -- the state after a call stands: for the same trace if it was refused, with the page behind it if it was accepted
+  pub stands-accepted : (evicted : List ℕ) (p : ℕ) → requestRefusal run count cache evicted ≡ 0
+      → Stands k a (trace ++ (p ∷ []))
+      (replyOf run count cache evicted p .run) (replyOf run count cache evicted p .count) (cacheOf run count cache evicted p)
+  stands-accepted evicted p e =
+      let room : k ≤ length cache = rw (← k-is) (ready-of run count cache evicted e .cache-room) in
+      rw e (stands-served p room)
+
+  -- the cache list keeps its length
+  pub accepted-room : (evicted : List ℕ) (p : ℕ) → requestRefusal run count cache evicted ≡ 0 → k ≤ length (cacheOf run count cache evicted p)
+  accepted-room evicted p e =
+      let room : run .k ≤ length cache = ready-of run count cache evicted e .cache-room in
+      let same : run .k ≡ k = k-is in
+      let most : length (heldAfter run count cache p) ≤ run .k = omega (arith, stands-served p (omega arith) .count-most) in
+      rw (e, length-laid (run .k) (heldAfter run count cache p) cache most room) (omega arith)
+
+  -- a state that stands is ready for a request, where the lists have room and the counter is not full
+  pub stands-ready : (evicted : List ℕ) → k ≤ length cache → a ≤ length evicted → length trace < 4294967295 → Ready run count cache evicted
+  stands-ready evicted room bundle-room more =
+      record {
+        a-least = rw a-is (s .a-least);
+        a-most = rw (k-is, a-is) (s .a-most);
+        k-most = rw k-is (s .k-most);
+        cache-room = rw k-is room;
+        evicted-room = rw a-is bundle-room;
+        count-most = rw k-is (s .count-most);
+        evictions-most = s .evictions-most;
+        loads-most = s .loads-most;
+        once = s .once;
+        further = λ e. let r = ap (λ (r : Run). r .requests) (s .record-is) in omega arith;
+      }
+
+-- the first turn of a trace
+pub stands-first : (k a : ℕ) (trace : List ℕ) (run : Run) (cache : List ℕ) → TraceReady k a trace → run ≡ emptyRun k a
+    → Stands k a [] run 0 cache
+stands-first k a trace run cache t e = rw e (stands-empty k a cache (t .a-least) (t .a-most) (t .k-most))
+
+-- one more request of a trace
+pub stands-next : (k a : ℕ) (trace : List ℕ) (i : ℕ) (run : Run) (count : ℕ) (cache y : List ℕ) (reply : Reply)
+    → Stands k a (take i trace) run count cache → i < length trace → k ≤ length cache
+    → reply ≡ replyServed run count cache (getD trace i 0) → y ≡ cacheServed run count cache (getD trace i 0)
+    → Stands k a (take (i + 1) trace) (reply .run) (reply .count) y
+stands-next k a trace i run count cache y reply s h room e f =
+    rw (e, f, add-one i, take-suc trace i 0 h) (stands-served s (getD trace i 0) room)
+
+pub stands-whole : (k a : ℕ) (trace : List ℕ) (i : ℕ) (run : Run) (count : ℕ) (cache : List ℕ)
+    → Stands k a (take i trace) run count cache → length trace ≤ i → run ≡ runOver k a trace
+stands-whole k a trace i run count cache s h = s .record-is ∙ ap (runOver k a) (take-all i trace h)
+
+-- Lists of calls
+
+-- by cases on a test that a type mentions
+by-test : (P : Bool → Type 0) (b : Bool) → (b ≡ true → P true) → (b ≡ false → P false) → P b
+by-test P true f g = f refl
+by-test P false f g = g refl
+
+-- the state after a call stands: for the same trace if it was refused, for the trace with the page behind it if it was accepted
+pub call-stands : (k a : ℕ) (call : Call) (trace : List ℕ) (S : State) → Stands k a trace (S .run) (S .count) (S .cache)
+    → Stands k a (trace ++ pick (accepts call S) (call .page ∷ []) []) (called call S .run) (called call S .count) (called call S .cache)
+call-stands k a call trace S s =
+    by-test
+    (λ b. Stands k a (trace ++ pick b (call .page ∷ []) [])
+    (pick b (afterCall call S) S .run) (pick b (afterCall call S) S .count) (pick b (afterCall call S) S .cache))
+    (accepts call S)
+    (λ e. stands-accepted s (call .evicted) (call .page) (eqb-true _ _ e))
+    (λ e. rw (append-nil trace) s)
+
+pub calls-stand : (k a : ℕ) (calls : List Call) (trace : List ℕ) (S : State) → Stands k a trace (S .run) (S .count) (S .cache)
+    → Stands k a (trace ++ acceptedPages calls S) (afterCalls calls S .run) (afterCalls calls S .count) (afterCalls calls S .cache)
+calls-stand k a [] trace S s = rw (append-nil trace) s
+calls-stand k a (call ∷ calls) trace S s =
+    rw (← append-assoc trace (pick (accepts call S) (call .page ∷ []) []) (acceptedPages calls (called call S)))
+    (calls-stand k a calls (trace ++ pick (accepts call S) (call .page ∷ []) []) (called call S) (call-stands k a call trace S s))
+
+length-pages : (calls : List Call) → length (pagesOf calls) ≡ length calls
+length-pages [] = refl
+length-pages (call ∷ calls) = ap suc (length-pages calls)
+
+-- where every evicted list has room and the counter does not fill, each call is accepted
+pub calls-accepted : (k a : ℕ) (calls : List Call) (trace : List ℕ) (S : State) → Stands k a trace (S .run) (S .count) (S .cache)
+    → k ≤ length (S .cache) → roomy a calls ≡ true → length trace + length calls ≤ 4294967295 → acceptedPages calls S ≡ pagesOf calls
+calls-accepted k a [] trace S s room r n = refl
+calls-accepted k a (call ∷ calls) trace S s room r n =
+    let b : a ≤ length (call .evicted) = leb-true _ _ (and-l _ _ r) in
+    let z : requestRefusal (S .run) (S .count) (S .cache) (call .evicted) ≡ 0 =
+    stands-refusal s (call .evicted)
+    ∙ rw (le-ltb _ _ room, le-ltb _ _ b, ne-eqb (length trace) 4294967295 (λ e. absurd (omega arith)), or-none false false refl refl) refl in
+    let next = stands-accepted s (call .evicted) (call .page) z in
+    let l : length (trace ++ (call .page ∷ [])) ≡ length trace + 1 = length-append trace (call .page ∷ []) in
+    by-test
+    (λ b. pick b (call .page ∷ []) [] ++ acceptedPages calls (pick b (afterCall call S) S) ≡ call .page ∷ pagesOf calls)
+    (accepts call S)
+    (λ e. ap (λ (r : List ℕ). call .page ∷ r)
+    (calls-accepted k a calls (trace ++ (call .page ∷ [])) (afterCall call S) next (accepted-room s (call .evicted) (call .page) z) (and-r _ _ r) (omega arith)))
+    (λ e. clash (accepts call S) (eq-eqb _ _ z) e)
+
+-- from document 01's start: record, count and list after the calls are those of the model over the accepted pages
+pub calls-from-empty : (k a : ℕ) (calls : List Call) (cache : List ℕ) → 1 ≤ a → a ≤ k → k ≤ 256
+    → Stands k a (acceptedPages calls (emptyState k a cache))
+    (afterCalls calls (emptyState k a cache) .run) (afterCalls calls (emptyState k a cache) .count) (afterCalls calls (emptyState k a cache) .cache)
+calls-from-empty k a calls cache least most k-most =
+    calls-stand k a calls [] (emptyState k a cache) (stands-empty k a cache least most k-most)
+
+-- LRU over a trace answers what the single calls give one after the other
+pub totals-of-calls : (k a : ℕ) (calls : List Call) (cache : List ℕ) → traceRefusal k a (pagesOf calls) ≡ 0 → k ≤ length cache → roomy a calls ≡ true
+    → totalsOf k a (pagesOf calls)
+    ≡ record {
+      refusal = 0;
+      bundles = afterCalls calls (emptyState k a cache) .run .evictions;
+      loads = afterCalls calls (emptyState k a cache) .run .loads;
+    }
+totals-of-calls k a calls cache e room r =
+    let ready = trace-ready k a (pagesOf calls) e in
+    let S = emptyState k a cache in
+    let start = stands-empty k a cache (ready .a-least) (ready .a-most) (ready .k-most) in
+    let all = calls-accepted k a calls [] S start room r (omega (arith, ready .trace-most, length-pages calls)) in
+    let end : Stands k a (pagesOf calls) (afterCalls calls S .run) (afterCalls calls S .count) (afterCalls calls S .cache) =
+    rw all at (calls-from-empty k a calls cache (ready .a-least) (ready .a-most) (ready .k-most)) in
+    sym (totals-served k a (pagesOf calls) (afterCalls calls S .run) e (end .record-is))

@@ -1,0 +1,31 @@
+-- `lru::serving::hit` meets its contract: the page moved to the end of the pages held, then zeros up to k.
+use native.Mathlib.Omega.{arith}
+use lib.ListN.{length-take}
+use mathlib.Core.Path.{sym}
+use Rattle.lru.proofs.Laying.{hit-laid}
+use borrow.Author.Needs.{needs}
+use Rattle.lru.proofs.serving.hit.Statement.{statement}
+use Rattle.lru.proofs.serving.hit.Tie as tie
+
+slice-aggregate-to-end : tie.Need-slice-aggregate-to-end
+slice-aggregate-to-end c = simp length-take (omega arith)
+
+returns : tie.Need-returns
+returns c =
+    let s = c .before .before .before .before .before .before .before .before .before in
+    hit-laid (s .args .n) (s .args .k) (s .args .at) (s .args .cache .now) _ _ (omega arith) (omega arith) (c .before .before .before .before .before .before .to-end .ensures) (c .before .before .fill-zero .ensures)
+
+pub hit-spec : {M : Type 1} → statement M
+hit-spec =
+    tie.close
+    (tie.spec
+    (λ c. search needs)
+    slice-aggregate-to-end
+    (λ c κs. search needs)
+    (λ c. search needs)
+    (λ c. search needs)
+    (λ c. search needs)
+    (λ c. search needs)
+    (λ c κs. search needs)
+    (λ c. search needs)
+    returns)

@@ -1,0 +1,5 @@
+pub mod Serving
+pub mod Refusing
+pub mod Ready
+pub mod Standing
+pub mod Cases

@@ -1,0 +1,61 @@
+-- The call, for any record, count and lists: its refusals (document 01, "Who can cause a refusal" and "Well formed"), and what it
+-- answers and leaves. A refusal is its number with zeros elsewhere, and changes nothing.
+use Prim.Native.Nat.{ℕ}
+use mathlib.Core.Bool.{Bool, not}
+use mathlib.Core.List.{List}
+use lib.Dec.{eqb, leb, ltb}
+use lib.ListN.{length, take}
+use Rattle.lists.specs.Choice.{pick, _and_, _or_}
+use Rattle.lists.specs.Pages.{distinct}
+use Rattle.paging.specs.Refusals.{refuse, sizesRefusal}
+use Rattle.paging.specs.Lru.{lruRule}
+use Rattle.paging.specs.Policy.{bundleCount, loadCount}
+use Rattle.lru.specs.declared.Run.{Run}
+use Rattle.lru.specs.declared.Reply.{Reply}
+use Rattle.lru.specs.declared.Totals.{Totals}
+use Rattle.lru.specs.Serving.{emptyRun, cacheServed, evictedServed, replyServed}
+
+-- document 01's "Well formed": only the first `count` places are looked at
+unfoldable pub wellFormed : Run → (count : ℕ) → (cache : List ℕ) → Bool
+wellFormed run count cache =
+    leb count (run .k)
+    and leb (run .evictions) (run .loads)
+    and leb (run .loads) (run .requests)
+    and distinct (take count cache)
+
+unfoldable pub requestRefusal : Run → (count : ℕ) → (cache evicted : List ℕ) → ℕ
+requestRefusal run count cache evicted =
+    sizesRefusal (run .k) (run .a)
+    (refuse (ltb (length cache) (run .k) or ltb (length evicted) (run .a)) 8
+    (refuse (not (wellFormed run count cache)) 9
+    (refuse (eqb (run .requests) 4294967295) 12 0)))
+
+abbrev pub refused : (number : ℕ) → Reply
+refused number = record { refusal = number; run = emptyRun 0 0; count = 0; answer = 0 }
+
+-- what the call answers, and the two lists after it
+
+abbrev pub replyOf : Run → (count : ℕ) → (cache evicted : List ℕ) → (page : ℕ) → Reply
+replyOf run count cache evicted page =
+    pick (eqb (requestRefusal run count cache evicted) 0)
+    (replyServed run count cache page)
+    (refused (requestRefusal run count cache evicted))
+
+abbrev pub cacheOf : Run → (count : ℕ) → (cache evicted : List ℕ) → (page : ℕ) → List ℕ
+cacheOf run count cache evicted page =
+    pick (eqb (requestRefusal run count cache evicted) 0) (cacheServed run count cache page) cache
+
+abbrev pub evictedOf : Run → (count : ℕ) → (cache evicted : List ℕ) → (page : ℕ) → List ℕ
+evictedOf run count cache evicted page =
+    pick (eqb (requestRefusal run count cache evicted) 0) (evictedServed run count cache evicted page) evicted
+
+-- LRU over a whole trace, from the empty buffer
+
+unfoldable pub traceRefusal : (k a : ℕ) → (trace : List ℕ) → ℕ
+traceRefusal k a trace = sizesRefusal k a (refuse (ltb 65536 (length trace)) 3 0)
+
+abbrev pub totalsOf : (k a : ℕ) → (trace : List ℕ) → Totals
+totalsOf k a trace =
+    pick (eqb (traceRefusal k a trace) 0)
+    (record { refusal = 0; bundles = bundleCount (lruRule a) k trace; loads = loadCount (lruRule a) k trace })
+    (record { refusal = traceRefusal k a trace; bundles = 0; loads = 0 })

@@ -1,0 +1,73 @@
+-- One request served by LRU (document 01, "LRU"): the run record, the cache list with its count, and the evicted list after it.
+-- The pages held are the first `count` of the cache list, from least to most recent.
+use Prim.Native.Nat.{ℕ, _+_, _-_}
+use mathlib.Core.List.{List, [], _∷_, _++_}
+use lib.ListN.{length, take, drop, replicate}
+use Rattle.lists.specs.Choice.{pick}
+use Rattle.lists.specs.Pages.{bit}
+use Rattle.paging.specs.Policy.{Kind, kindOf, kindNumber, isBundled, isLoad, serve}
+use Rattle.paging.specs.Lru.{lruRule}
+use Rattle.lru.specs.declared.Run.{Run}
+use Rattle.lru.specs.declared.Reply.{Reply}
+
+-- the empty start of a run
+abbrev pub emptyRun : (k a : ℕ) → Run
+emptyRun k a = record { k = k; a = a; requests = 0; loads = 0; evictions = 0 }
+
+-- what the request is: decided by k, the page and the pages held
+abbrev pub kindIn : Run → (count : ℕ) → (cache : List ℕ) → (page : ℕ) → Kind
+kindIn run count cache page = kindOf (run .k) page (take count cache)
+
+-- the pages held after it
+abbrev pub heldAfter : Run → (count : ℕ) → (cache : List ℕ) → (page : ℕ) → List ℕ
+heldAfter run count cache page = serve (lruRule (run .a)) (run .k) page [] (take count cache)
+
+-- these pages in a cache list: zeros from the count up to k, and the places past k keep their contents
+abbrev pub laid : (k : ℕ) → (held cache : List ℕ) → List ℕ
+laid k held cache = (held ++ replicate (k - length held) 0) ++ drop k cache
+
+-- What a load does to the lists: the first `out` pages go as a bundle, least recent first; then the page is added. A load without a
+-- bundle is the case 0.
+
+abbrev pub loaded : (out page : ℕ) → (held : List ℕ) → List ℕ
+loaded out page held = drop out held ++ (page ∷ [])
+
+abbrev pub bundleOver : (out : ℕ) → (held evicted : List ℕ) → List ℕ
+bundleOver out held evicted = take out held ++ drop out evicted
+
+-- the pages that go at a request of this kind
+abbrev pub outOf : Kind → (a : ℕ) → ℕ
+outOf kind a = pick (isBundled kind) a 0
+
+-- The state after an accepted request
+
+-- one more request, with the loads and bundles it made
+abbrev pub countedRun : Run → (loads bundles : ℕ) → Run
+countedRun run loads bundles =
+    record {
+      k = run .k;
+      a = run .a;
+      requests = run .requests + 1;
+      loads = run .loads + loads;
+      evictions = run .evictions + bundles;
+    }
+
+abbrev pub runServed : Kind → Run → Run
+runServed kind run = countedRun run (bit (isLoad kind)) (bit (isBundled kind))
+
+abbrev pub cacheServed : Run → (count : ℕ) → (cache : List ℕ) → (page : ℕ) → List ℕ
+cacheServed run count cache page = laid (run .k) (heldAfter run count cache page) cache
+
+-- a bundle in the first a places; no bundle, no change
+abbrev pub evictedServed : Run → (count : ℕ) → (cache evicted : List ℕ) → (page : ℕ) → List ℕ
+evictedServed run count cache evicted page =
+    bundleOver (outOf (kindIn run count cache page) (run .a)) (take count cache) evicted
+
+abbrev pub replyServed : Run → (count : ℕ) → (cache : List ℕ) → (page : ℕ) → Reply
+replyServed run count cache page =
+    record {
+      refusal = 0;
+      run = runServed (kindIn run count cache page) run;
+      count = length (heldAfter run count cache page);
+      answer = kindNumber (kindIn run count cache page);
+    }

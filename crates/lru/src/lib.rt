@@ -1,0 +1,138 @@
+// Least recent use (document 01, "LRU"): the call that a tracker makes, one request at a time, on a run record by value and two
+// lent lists; and LRU over a whole trace.
+ghost use mathlib.Core.Path.{_≡_};
+ghost use Rattle.lru.specs.Serving.{emptyRun};
+ghost use Rattle.lru.specs.Refusing.{requestRefusal, replyOf, cacheOf, evictedOf, traceRefusal, totalsOf};
+use paging::Sizes;
+use paging::Trace;
+
+mod serving;
+
+// Document 01's run record.
+pub struct Run {
+    pub k: u32,
+    pub a: u32,
+    pub requests: u32,
+    pub loads: u32,
+    pub evictions: u32,
+}
+
+impl Run {
+    pub const K_MAX: u32 = paging::Sizes::K_MAX;
+
+    pub const COUNTER_MAX: u32 = paging::Counter::MAX;
+
+    // The empty start.
+    pub fn empty(k: u32, a: u32) -> Run
+        ensures { λ r. ⌜ r ≡ emptyRun k a ⌝ }
+    {
+        Run {
+            k,
+            a,
+            requests: 0,
+            loads: 0,
+            evictions: 0,
+        }
+    }
+}
+
+// What a request answers. Accepted: refusal 0, the new record and count, and 0 for a hit, 1 for a load, 2 for a load after a bundle.
+// Refused: the refusal's number, and zeros.
+pub struct Reply {
+    pub refusal: u32,
+    pub run: Run,
+    pub count: u32,
+    pub answer: u32,
+}
+
+// One request. The cache list runs from least to most recent, with its count beside it; the evicted list receives a bundle.
+pub fn request(run: Run, count: u32, cache: &mut [u32], evicted: &mut [u32], page: u32) -> Reply
+    ensures { λ r. ⌜ (r ≡ replyOf run count (now (cache .entry)) (now (evicted .entry)) page)
+        × ((now (cache .exit) ≡ cacheOf run count (now (cache .entry)) (now (evicted .entry)) page)
+        × (now (evicted .exit) ≡ evictedOf run count (now (cache .entry)) (now (evicted .entry)) page)) ⌝ }
+{
+    let number = refusal(run, count, cache, evicted);
+    if number != 0 {
+        return Reply {
+            refusal: number,
+            run: Run::empty(0, 0),
+            count: 0,
+            answer: 0,
+        };
+    }
+    serving::step(run, count, cache, evicted, page)
+}
+
+// The number of the first refusal that holds, in document 01's order, or 0.
+fn refusal(run: Run, count: u32, cache: &[u32], evicted: &[u32]) -> u32
+    ensures { λ r. ⌜ r ≡ requestRefusal run count (now (cache .entry)) (now (evicted .entry)) ⌝ }
+{
+    let k = run.k;
+    let a = run.a;
+    let sizes = Sizes { k, a }.refusal();
+    if sizes != 0 {
+        return sizes;
+    }
+    if cache.len() < k as usize {
+        return 8;
+    }
+    if evicted.len() < a as usize {
+        return 8;
+    }
+    if count > k {
+        return 9;
+    }
+    if run.evictions > run.loads {
+        return 9;
+    }
+    if run.loads > run.requests {
+        return 9;
+    }
+    if lists::no_page_twice(&cache[..count as usize]) {
+        if run.requests == Run::COUNTER_MAX {
+            return 12;
+        }
+        return 0;
+    }
+    9
+}
+
+// What LRU comes to over a trace: bundles and loads; or the refusal's number, and zeros.
+pub struct Totals {
+    pub refusal: u32,
+    pub bundles: u32,
+    pub loads: u32,
+}
+
+// LRU over a whole trace, from the empty buffer.
+pub fn over_trace(k: u32, a: u32, trace: &[u32]) -> Totals
+    ensures { λ r. ⌜ r ≡ totalsOf k a (now (trace .entry)) ⌝ }
+{
+    let number = trace_refusal(k, a, trace);
+    if number != 0 {
+        return Totals {
+            refusal: number,
+            bundles: 0,
+            loads: 0,
+        };
+    }
+    let run = serving::run_over(k, a, trace);
+    Totals {
+        refusal: 0,
+        bundles: run.evictions,
+        loads: run.loads,
+    }
+}
+
+fn trace_refusal(k: u32, a: u32, trace: &[u32]) -> u32
+    ensures { λ r. ⌜ r ≡ traceRefusal k a (now (trace .entry)) ⌝ }
+{
+    let sizes = Sizes { k, a }.refusal();
+    if sizes != 0 {
+        return sizes;
+    }
+    if trace.len() > Trace::LONGEST {
+        return 3;
+    }
+    0
+}

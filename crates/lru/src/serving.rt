@@ -1,0 +1,129 @@
+// Serving one request: find, decide, then write. No check here: whoever calls keeps the state ready.
+ghost use mathlib.Core.Path.{_≡_};
+ghost use Prim.Native.Nat.{_-_, _≤_, _<_};
+ghost use lib.ListN.{length, take};
+ghost use Rattle.lists.specs.Places.{movedToEnd};
+ghost use Rattle.lru.specs.Serving.{laid, loaded, bundleOver, countedRun, cacheServed, evictedServed, replyServed};
+ghost use Rattle.lru.specs.Ready.{Ready, Counts, TraceReady};
+ghost use Rattle.lru.specs.Standing.{runOver};
+ghost use Rattle.lru.specs.Cases.{foundIn};
+use crate::Reply;
+use crate::Run;
+
+// What a request finds: the page at a place of the pages held, or absent with room for it, or absent with k pages held.
+pub enum Found {
+    Held(usize),
+    Room,
+    Full,
+}
+
+// One request on a state that is ready for it.
+pub(crate) fn step(run: Run, count: u32, cache: &mut [u32], evicted: &mut [u32], page: u32) -> Reply
+    requires { ⌜ Ready run count (now cache) (now evicted) ⌝ }
+    ensures { λ r. ⌜ (r ≡ replyServed run count (now (cache .entry)) page)
+        × ((now (cache .exit) ≡ cacheServed run count (now (cache .entry)) page)
+        × (now (evicted .exit) ≡ evictedServed run count (now (cache .entry)) (now (evicted .entry)) page)) ⌝ }
+{
+    let k = run.k;
+    let a = run.a;
+    let found = decide(k as usize, &cache[..count as usize], page);
+    match found {
+        Found::Held(at) => {
+            hit(cache, count as usize, k as usize, at);
+            Reply {
+                refusal: 0,
+                run: counted(run, 0, 0),
+                count,
+                answer: 0,
+            }
+        }
+        Found::Room => {
+            load(cache, evicted, count as usize, k as usize, 0, page);
+            Reply {
+                refusal: 0,
+                run: counted(run, 1, 0),
+                count: count + 1,
+                answer: 1,
+            }
+        }
+        Found::Full => {
+            load(cache, evicted, count as usize, k as usize, a as usize, page);
+            Reply {
+                refusal: 0,
+                run: counted(run, 1, 1),
+                count: count - a + 1,
+                answer: 2,
+            }
+        }
+    }
+}
+
+// The record after a trace, from the empty buffer. The state stays ready, so that no request is checked.
+pub(crate) fn run_over(k: u32, a: u32, trace: &[u32]) -> Run
+    requires { ⌜ TraceReady k a (now trace) ⌝ }
+    ensures { λ r. ⌜ r ≡ runOver k a (now (trace .entry)) ⌝ }
+{
+    let mut cache = [0u32; 256];
+    let mut evicted = [0u32; 256];
+    let mut run = Run::empty(k, a);
+    let mut count = 0u32;
+    let mut i = 0;
+    while i < trace.len() {
+        let reply = step(run, count, &mut cache, &mut evicted, trace[i]);
+        run = reply.run;
+        count = reply.count;
+        i += 1;
+    }
+    run
+}
+
+// The record after one more request, with the loads and bundles it made.
+fn counted(run: Run, loads: u32, bundles: u32) -> Run
+    requires { ⌜ Counts run loads bundles ⌝ }
+    ensures { λ r. ⌜ r ≡ countedRun run loads bundles ⌝ }
+{
+    Run {
+        k: run.k,
+        a: run.a,
+        requests: run.requests + 1,
+        loads: run.loads + loads,
+        evictions: run.evictions + bundles,
+    }
+}
+
+// Which of hit, load and load after a bundle the request is, by the pages held.
+pub(crate) fn decide(k: usize, held: &[u32], page: u32) -> Found
+    ensures { λ r. ⌜ r ≡ foundIn k page (now (held .entry)) ⌝ }
+{
+    let at = lists::find(held, page);
+    if at < held.len() {
+        return Found::Held(at);
+    }
+    if held.len() < k {
+        return Found::Room;
+    }
+    Found::Full
+}
+
+// A hit: of the n pages held, the one at the place becomes the most recent.
+fn hit(cache: &mut [u32], n: usize, k: usize, at: usize)
+    requires { ⌜ (n ≤ k) × (k ≤ length (now cache)) ⌝ }
+    ensures { λ r. ⌜ now (cache .exit) ≡ laid k (movedToEnd at (take n (now (cache .entry)))) (now (cache .entry)) ⌝ }
+{
+    lists::moves::to_end(&mut cache[..n], at);
+    lists::moves::fill_zero(&mut cache[n..k]);
+}
+
+// A load: of the n pages held, the first `out` go into the evicted list, and the page becomes the most recent.
+fn load(cache: &mut [u32], evicted: &mut [u32], n: usize, k: usize, out: usize, page: u32)
+    requires { ⌜ (n ≤ k) × ((k ≤ length (now cache)) × ((out ≤ n) × ((out ≤ length (now evicted)) × (n - out < k)))) ⌝ }
+    ensures { λ r. ⌜ (now (cache .exit) ≡ laid k (loaded out page (take n (now (cache .entry)))) (now (cache .entry)))
+        × (now (evicted .exit) ≡ bundleOver out (take n (now (cache .entry))) (now (evicted .entry))) ⌝ }
+{
+    lists::moves::copy(&cache[..out], evicted);
+    lists::moves::drop_first(&mut cache[..n], out);
+    let last = n - out;
+    cache[last] = page;
+    let behind = last + 1;
+    lists::moves::fill_zero(&mut cache[behind..k]);
+}
