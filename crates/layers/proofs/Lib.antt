@@ -1,0 +1,11 @@
+pub mod Rows
+pub mod Serving
+pub mod Reading
+pub mod WellFormed
+pub mod Refusing
+pub mod Order
+pub mod Asking
+pub mod Forming
+pub mod Steps
+pub mod TraceLaws
+pub mod OverLaws

@@ -1,0 +1,214 @@
+-- The refusals of the calls: which one falls, and what is known where none does.
+use Prim.Native.Nat.{ℕ, zero, suc, _+_, _-_, _≤_, _<_}
+use mathlib.Core.Path.{_≡_, refl, sym, ap, _∙_}
+use mathlib.Core.Bool.{Bool, true, false, not}
+use mathlib.Core.List.{List, [], _∷_, _++_}
+use native.Mathlib.Omega.{arith}
+use lib.Dec.{eqb, leb, ltb}
+use lib.ListN.{length}
+use borrow.Author.Tests.{eq-eqb, ne-eqb, lt-ltb, le-ltb, le-leb, lt-leb, eqb-true, eqb-false, leb-true, not-false}
+use Rattle.lists.specs.Choice.{pick, _and_, _or_}
+use Rattle.lists.specs.Pages.{bit}
+use Rattle.lists.specs.Sorting.{Row}
+use Rattle.lists.proofs.Choice.{tests, cases, or-none-l, or-none-r, clash}
+use Rattle.paging.specs.Refusals.{refuse, sizesRefusal}
+use Rattle.paging.specs.Layers.{isJoin, topAfter}
+use Rattle.paging.specs.Table.{ruleIn, rowsAfter}
+use Rattle.layers.specs.Rows.{rowsOf, numbersOf, pagesOf, usedRows, tableOf}
+use Rattle.layers.specs.Formed.{wellFormed}
+use Rattle.layers.specs.Calls.{ruleOf, stateRefusal, requestRefusal, requestReply, pagesNext, numbersNext, refused, runNext, rowsNext}
+use Rattle.layers.specs.Serving.{Sound, SteppedTo}
+use Rattle.layers.specs.declared.LayersRun.{LayersRun}
+use Rattle.layers.specs.declared.LayersReply.{LayersReply}
+use Rattle.layers.specs.declared.table.Stepped.{Stepped}
+use Rattle.layers.proofs.Rows.{numbers-back, pages-back}
+use Rattle.layers.proofs.Serving.{used-rows, used-rule}
+use Rattle.layers.proofs.WellFormed.{facts}
+
+-- one condition of a list
+fall : (b : Bool) (number rest : ℕ) → b ≡ true → refuse b number rest ≡ number
+fall b number rest e = rw e
+
+pass : (b : Bool) (number rest : ℕ) → b ≡ false → refuse b number rest ≡ rest
+pass b number rest e = rw e
+
+zero-pass : (b : Bool) (number rest : ℕ) → (number ≡ 0 → ⊥) → refuse b number rest ≡ 0 → (b ≡ false) × (rest ≡ 0)
+zero-pass b number rest n e =
+    cases b (λ t. absurd (n (rw t at e))) (λ t. (t, rw t at e))
+
+-- The sizes
+
+-- the refusals of the sizes do not depend on what is judged behind them
+sizes-is : (k a rest : ℕ) → sizesRefusal k a rest ≡ pick (eqb (sizesRefusal k a 0) 0) rest (sizesRefusal k a 0)
+unfolding sizesRefusal
+sizes-is k a rest =
+    cases (eqb k 0 or ltb 256 k) (λ e. rw e) (λ e. cases (eqb a 0 or ltb k a) (λ f. rw (e, f)) (λ f. rw (e, f)))
+
+pub sizes-pass : (k a rest : ℕ) → sizesRefusal k a 0 ≡ 0 → sizesRefusal k a rest ≡ rest
+sizes-pass k a rest e = sizes-is k a rest ∙ rw e
+
+pub sizes-fall : (k a rest number : ℕ) → number ≡ sizesRefusal k a 0 → (number ≡ 0 → ⊥) → sizesRefusal k a rest ≡ number
+sizes-fall k a rest number e n = sizes-is k a rest ∙ rw (← e, ne-eqb number 0 n)
+
+sizes-zero : (k a rest : ℕ) → sizesRefusal k a rest ≡ 0 → sizesRefusal k a 0 ≡ 0
+sizes-zero k a rest e =
+    cases (eqb (sizesRefusal k a 0) 0) (λ f. eqb-true _ 0 f) (λ f. sym (sizes-is k a rest ∙ rw f) ∙ e)
+
+pub record SizesRight (k a : ℕ) : Type 0 where
+  pub a-low : 1 ≤ a
+  pub a-high : a ≤ k
+  pub k-high : k ≤ 256
+
+pub sizes-right : (k a : ℕ) → sizesRefusal k a 0 ≡ 0 → SizesRight k a
+unfolding sizesRefusal _or_
+sizes-right k a e =
+    let first = zero-pass (eqb k 0 or ltb 256 k) 1 _ (λ z. omega arith) e in
+    let second = zero-pass (eqb a 0 or ltb k a) 2 _ (λ z. omega arith) (first .1) in
+    let k1 = or-none-l (eqb k 0) (ltb 256 k) (first .0) in
+    let k2 = or-none-r (eqb k 0) (ltb 256 k) (first .0) in
+    let a1 = or-none-l (eqb a 0) (ltb k a) (second .0) in
+    let a2 = or-none-r (eqb a 0) (ltb k a) (second .0) in
+    record { a-low = omega tests; a-high = omega tests; k-high = omega tests }
+
+pub sizes-taken : (k a : ℕ) → SizesRight k a → sizesRefusal k a 0 ≡ 0
+unfolding sizesRefusal _or_
+sizes-taken k a r =
+    let l = r .a-low in
+    let h = r .a-high in
+    let m = r .k-high in
+    rw (ne-eqb k 0 (λ e. omega arith), le-ltb 256 k m, ne-eqb a 0 (λ e. omega arith), le-ltb k a h)
+
+-- The state
+
+-- what is known where no call on the state is refused with 1, 2, 8 or 9
+pub record Ready (run : LayersRun) (pages numbers : List ℕ) : Type 0 where
+  pub sizes : SizesRight (run .k) (run .a)
+  pub even : length pages ≡ length numbers
+  pub formed : wellFormed run (rowsOf numbers pages) ≡ true
+
+module _ (run : LayersRun) (pages numbers : List ℕ) where
+  pub state-sizes : (number : ℕ) → number ≡ sizesRefusal (run .k) (run .a) 0 → (number ≡ 0 → ⊥) → (rest : ℕ) → stateRefusal run pages numbers rest ≡ number
+  unfolding stateRefusal
+  state-sizes number e n rest = sizes-fall (run .k) (run .a) _ number e n
+
+  pub state-uneven : sizesRefusal (run .k) (run .a) 0 ≡ 0 → (length pages ≡ length numbers → ⊥) → (rest : ℕ) → stateRefusal run pages numbers rest ≡ 8
+  unfolding stateRefusal
+  state-uneven e u rest = sizes-pass (run .k) (run .a) _ e ∙ rw (ne-eqb (length pages) (length numbers) u)
+
+  pub state-ill : sizesRefusal (run .k) (run .a) 0 ≡ 0 → length pages ≡ length numbers → wellFormed run (rowsOf numbers pages) ≡ false → (rest : ℕ) → stateRefusal run pages numbers rest ≡ 9
+  unfolding stateRefusal
+  state-ill e u w rest = sizes-pass (run .k) (run .a) _ e ∙ rw (eq-eqb (length pages) (length numbers) u, w)
+
+  pub state-pass : Ready run pages numbers → (rest : ℕ) → stateRefusal run pages numbers rest ≡ rest
+  unfolding stateRefusal
+  state-pass r rest = sizes-pass (run .k) (run .a) _ (sizes-taken (run .k) (run .a) (r .sizes)) ∙ rw (eq-eqb (length pages) (length numbers) (r .even), r .formed)
+
+  pub state-ready : stateRefusal run pages numbers 0 ≡ 0 → Ready run pages numbers
+  unfolding stateRefusal
+  state-ready z =
+      let right = sizes-zero (run .k) (run .a) _ z in
+      let first = zero-pass (not (eqb (length pages) (length numbers))) 8 _ (λ e. omega arith) (sym (sizes-pass (run .k) (run .a) _ right) ∙ z) in
+      let second = zero-pass (not (wellFormed run (rowsOf numbers pages))) 9 _ (λ e. omega arith) (first .1) in
+      record {
+        sizes = sizes-right (run .k) (run .a) right;
+        even = eqb-true (length pages) (length numbers) (not-false _ (first .0));
+        formed = not-false _ (second .0);
+      }
+
+  -- the refusals of the state do not depend on what is judged behind them
+  state-is : (rest : ℕ) → stateRefusal run pages numbers rest ≡ pick (eqb (stateRefusal run pages numbers 0) 0) rest (stateRefusal run pages numbers 0)
+  state-is rest =
+      cases (eqb (stateRefusal run pages numbers 0) 0)
+      (λ e. rw e (state-pass (state-ready (eqb-true _ 0 e)) rest))
+      (λ e. rw e (
+      cases (eqb (sizesRefusal (run .k) (run .a) 0) 0)
+      (λ s. let right = eqb-true (sizesRefusal (run .k) (run .a) 0) 0 s in
+      cases (eqb (length pages) (length numbers))
+      (λ l. cases (wellFormed run (rowsOf numbers pages))
+      (λ w. clash _ (eq-eqb _ 0 (state-pass (record { sizes = sizes-right (run .k) (run .a) right; even = eqb-true _ _ l; formed = w }) 0)) e)
+      (λ w. state-ill right (eqb-true _ _ l) w rest ∙ sym (state-ill right (eqb-true _ _ l) w 0)))
+      (λ l. state-uneven right (eqb-false _ _ l) rest ∙ sym (state-uneven right (eqb-false _ _ l) 0)))
+      (λ s. state-sizes _ refl (eqb-false _ 0 s) rest ∙ sym (state-sizes _ refl (eqb-false _ 0 s) 0))))
+
+  pub state-fall : (number : ℕ) → number ≡ stateRefusal run pages numbers 0 → (number ≡ 0 → ⊥) → (rest : ℕ) → stateRefusal run pages numbers rest ≡ number
+  state-fall number e n rest = state-is rest ∙ rw (← e, ne-eqb number 0 n)
+
+-- A request
+
+pub sound : (run : LayersRun) (pages numbers : List ℕ) → Ready run pages numbers → Sound (run .k) (run .a) (run .s)
+sound run pages numbers r =
+    record {
+      a-low = r .sizes .a-low;
+      a-high = r .sizes .a-high;
+      k-high = r .sizes .k-high;
+      s-high = leb-true (run .s) (run .k) (facts run (rowsOf numbers pages) (r .formed) .s-low);
+    }
+
+pub evictions-low : (run : LayersRun) (pages numbers : List ℕ) → Ready run pages numbers → run .evictions ≤ run .requests
+evictions-low run pages numbers r = leb-true (run .evictions) (run .requests) (facts run (rowsOf numbers pages) (r .formed) .counted)
+
+module _ (run : LayersRun) (pages numbers : List ℕ) (p : ℕ) where
+  pub request-refused : (number : ℕ) → requestRefusal run pages numbers p ≡ number → (number ≡ 0 → ⊥)
+      → (refused number ≡ requestReply run pages numbers p) × (pages ≡ pagesNext run pages numbers p) × (numbers ≡ numbersNext run pages numbers p)
+  unfolding requestReply pagesNext numbersNext
+  request-refused number e n = (rw (e, ne-eqb number 0 n), rw (e, ne-eqb number 0 n), rw (e, ne-eqb number 0 n))
+
+  -- refused by the state
+  pub request-state : (number : ℕ) → number ≡ stateRefusal run pages numbers 0 → (number ≡ 0 → ⊥) → requestRefusal run pages numbers p ≡ number
+  unfolding requestRefusal
+  request-state number e n = state-fall run pages numbers number e n _
+
+  module _ (z : stateRefusal run pages numbers 0 ≡ 0) where
+    -- refused by the counter
+    pub request-last : run .requests ≡ 4294967295 → requestRefusal run pages numbers p ≡ 12
+    unfolding requestRefusal
+    request-last e = state-pass run pages numbers (state-ready run pages numbers z) _ ∙ rw (eq-eqb (run .requests) 4294967295 e)
+
+    module _ (more : run .requests ≡ 4294967295 → ⊥) (r : Stepped) (rows′ : List Row)
+        (t : SteppedTo (run .k) (run .a) (run .s) p (length pages) (rowsOf numbers pages) rows′ r) where
+      room : ltb (length pages) (length (rowsNext run p (rowsOf numbers pages))) ≡ r .full
+      room = rw (used-rows (run .k) (run .a) (run .s) p (rowsOf numbers pages)) (sym (t .full-told))
+
+      -- refused for want of places
+      pub request-full : r .full ≡ true → requestRefusal run pages numbers p ≡ 10
+      unfolding requestRefusal
+      request-full e =
+          state-pass run pages numbers (state-ready run pages numbers z) _
+          ∙ rw (ne-eqb (run .requests) 4294967295 more, room, e)
+
+      request-none : r .full ≡ false → requestRefusal run pages numbers p ≡ 0
+      unfolding requestRefusal
+      request-none e =
+          state-pass run pages numbers (state-ready run pages numbers z) _
+          ∙ rw (ne-eqb (run .requests) 4294967295 more, room, e)
+
+      -- the table of a refused step is as it was
+      pub rows-kept : r .full ≡ true → rows′ ≡ rowsOf numbers pages
+      rows-kept e = t .rows-told ∙ rw e
+
+      -- served
+      pub request-served : (b : ℕ) (pages′ numbers′ : List ℕ) → r .full ≡ false → b ≡ bit (isJoin (ruleOf (r .rule))) → rows′ ≡ rowsOf numbers′ pages′
+          → length pages′ ≡ length numbers′
+          → (record { refusal = 0; run = record { k = run .k; a = run .a; requests = run .requests + 1; evictions = run .evictions + b; s = r .s } }
+          ≡ requestReply run pages numbers p)
+          × (pages′ ≡ pagesNext run pages numbers p) × (numbers′ ≡ numbersNext run pages numbers p)
+      unfolding requestReply pagesNext numbersNext
+      request-served b pages′ numbers′ e eb er l =
+          let free = request-none e in
+          let table : rowsOf numbers′ pages′ ≡ tableOf (length pages) (rowsNext run p (rowsOf numbers pages)) =
+          sym er ∙ t .rows-told ∙ rw (e, used-rows (run .k) (run .a) (run .s) p (rowsOf numbers pages)) in
+          let rule : ruleOf (r .rule) ≡ ruleIn (run .k) (run .s) p (usedRows (rowsOf numbers pages)) =
+          t .rule-told ∙ sym (used-rule (run .k) (run .s) p (rowsOf numbers pages)) in
+          let top : r .s ≡ topAfter (ruleIn (run .k) (run .s) p (usedRows (rowsOf numbers pages))) (run .k) (run .a) (run .s) =
+          t .top-told ∙ rw (e, used-rule (run .k) (run .s) p (rowsOf numbers pages)) in (
+            rw (free, eb, rule, top),
+            rw free (sym (pages-back numbers′ pages′ l) ∙ ap pagesOf table),
+            rw free (sym (numbers-back numbers′ pages′ l) ∙ ap numbersOf table),
+          )
+
+-- lists that make the same rows are the same
+pub pages-same : (numbers pages numbers′ pages′ : List ℕ) → length pages ≡ length numbers → length pages′ ≡ length numbers′ → rowsOf numbers′ pages′ ≡ rowsOf numbers pages → pages′ ≡ pages
+pages-same numbers pages numbers′ pages′ l l′ e = sym (pages-back numbers′ pages′ l′) ∙ ap pagesOf e ∙ pages-back numbers pages l
+
+pub numbers-same : (numbers pages numbers′ pages′ : List ℕ) → length pages ≡ length numbers → length pages′ ≡ length numbers′ → rowsOf numbers′ pages′ ≡ rowsOf numbers pages → numbers′ ≡ numbers
+numbers-same numbers pages numbers′ pages′ l l′ e = sym (numbers-back numbers′ pages′ l′) ∙ ap numbersOf e ∙ numbers-back numbers pages l

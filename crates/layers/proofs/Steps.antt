@@ -1,0 +1,417 @@
+-- Calls one after the other: the record and the table that stand for a trace, from the empty state on. An accepted request leads to what
+-- stands for the longer trace, no such state is refused as ill formed, and a question is answered by the layers of the trace as a map.
+use Prim.Native.Nat.{ℕ, zero, suc, _+_, _-_, _≤_, _<_}
+use mathlib.Core.Bool.{Bool, true, false, not, false≢true}
+use mathlib.Core.Path.{_≡_, refl, sym, ap, subst, _∙_}
+use mathlib.Core.List.{List, [], _∷_, _++_}
+use native.Mathlib.Omega.{arith}
+use lib.Dec.{eqb, ltb}
+use lib.ListN.{length, replicate, length-append, length-replicate}
+use borrow.Author.Tests.{eq-eqb, ne-eqb, le-ltb, ltb-false}
+use Rattle.lists.specs.Choice.{pick, _and_, _or_}
+use Rattle.lists.specs.Pages.{count, bit, distinct}
+use Rattle.lists.specs.Sorting.{Row}
+use Rattle.lists.proofs.Choice.{tests, cases, and-i, or-none, or-none-l, or-none-r}
+use Rattle.lists.proofs.Pages.{count-length}
+use Rattle.paging.specs.Refusals.{refuse, sizesRefusal}
+use Rattle.paging.specs.Layers.{Layers, noLayers, isJoin, topAfter, layered, layersAfter, layerRules, joinCount, holdsUpTo, possible}
+use Rattle.paging.specs.Table.{numberIn, ruleIn, revealed}
+use Rattle.theory.proofs.Table.{table-step}
+use Rattle.layers.specs.Rows.{rowsOf, numbersOf, pagesOf, unused, usedRows, tableOf}
+use Rattle.layers.specs.Formed.{wellFormed, isUnused}
+use Rattle.layers.specs.Calls.{emptyRun, stateRefusal, rowsNext, ruleNext, runNext, requestRefusal, requestReply, tableNext, pagesNext, numbersNext}
+use Rattle.layers.specs.Questions.{layersIn, Verdict, possibleSet, countDiffers, broken, refusedWith, verdictOf, judged, possibleRefusal, verdict, PossibleTold}
+use Rattle.layers.specs.Traces.{Tabled, nothingYet, tabledNext, tabledAfter, overflows, allUnused, traceRefusal, traceTotals, pagesOver, numbersOver}
+use Rattle.layers.specs.declared.LayersRun.{LayersRun}
+use Rattle.layers.specs.declared.PossibleAnswer.{PossibleAnswer}
+use Rattle.layers.specs.declared.PossibleAnswer.the-variants.{Yes, CountDiffers, BrokenAt, Refused}
+use Rattle.layers.proofs.Rows.{rows-back}
+use Rattle.layers.proofs.Forming.{FormedRows, no-rows-formed, request-forms, one-row-more, used-table, formed-table}
+
+-- Rows along a trace
+
+-- the map that rows with their s give
+abbrev mapOf : Tabled → Layers
+mapOf T = record { of = numberIn (T .rows); top = T .s }
+
+layers-from : (k a : ℕ) (trace : List ℕ) (T : Tabled) → layersAfter k a trace (mapOf T) ≡ mapOf (tabledAfter k a trace T)
+layers-from k a [] T = refl
+layers-from k a (p ∷ ps) T =
+    ap (λ L. layersAfter k a ps L) (table-step k a (T .s) p (T .rows)) ∙ layers-from k a ps (tabledNext k a p T)
+
+joins-from : (k a : ℕ) (trace : List ℕ) (T : Tabled) → tabledAfter k a trace T .joins ≡ T .joins + count isJoin (layerRules k a trace (mapOf T))
+joins-from k a [] T = omega arith
+joins-from k a (p ∷ ps) T =
+    omega (
+      arith,
+      joins-from k a ps (tabledNext k a p T),
+      ap (λ L. count isJoin (layerRules k a ps L)) (table-step k a (T .s) p (T .rows)),
+    )
+
+-- the rows of a trace give the layers of the trace
+pub tabled-map : (k a : ℕ) (trace : List ℕ) (q : ℕ) → numberIn (tabledAfter k a trace nothingYet .rows) q ≡ layersAfter k a trace noLayers .of q
+tabled-map k a trace q = ap (λ L. L .of q) (sym (layers-from k a trace nothingYet))
+
+pub tabled-top : (k a : ℕ) (trace : List ℕ) → tabledAfter k a trace nothingYet .s ≡ layersAfter k a trace noLayers .top
+tabled-top k a trace = ap (λ L. L .top) (sym (layers-from k a trace nothingYet))
+
+pub tabled-joins : (k a : ℕ) (trace : List ℕ) → tabledAfter k a trace nothingYet .joins ≡ joinCount k a trace
+tabled-joins k a trace = omega (arith, joins-from k a trace nothingYet)
+
+pub tabled-snoc : (k a : ℕ) (trace : List ℕ) (p : ℕ) (T : Tabled) → tabledAfter k a (trace ++ (p ∷ [])) T ≡ tabledNext k a p (tabledAfter k a trace T)
+tabled-snoc k a [] p T = refl
+tabled-snoc k a (q ∷ qs) p T = tabled-snoc k a qs p (tabledNext k a q T)
+
+formed-from : (k a : ℕ) → 1 ≤ a → a ≤ k → (trace : List ℕ) (T : Tabled) → FormedRows k a (T .s) (T .rows)
+    → FormedRows k a (tabledAfter k a trace T .s) (tabledAfter k a trace T .rows)
+formed-from k a pos le [] T F = F
+formed-from k a pos le (p ∷ ps) T F =
+    formed-from k a pos le ps (tabledNext k a p T) (request-forms k a (T .s) p (T .rows) pos le F)
+
+-- after every trace the rows are as document 01 asks
+pub tabled-formed : (k a : ℕ) → 1 ≤ a → a ≤ k → (trace : List ℕ) → FormedRows k a (tabledAfter k a trace nothingYet .s) (tabledAfter k a trace nothingYet .rows)
+tabled-formed k a pos le trace = formed-from k a pos le trace nothingYet (no-rows-formed k a)
+
+-- a bundle is counted at most once a request
+pub joins-most : (k a : ℕ) (trace : List ℕ) → joinCount k a trace ≤ length trace
+joins-most k a trace = omega (arith, count-length isJoin (layerRules k a trace noLayers), each trace noLayers)
+  where
+    each : (ps : List ℕ) (L : Layers) → length (layerRules k a ps L) ≡ length ps
+    each [] L = refl
+    each (p ∷ ps) L = ap suc (each ps (layered k a p L))
+
+fits-from : (k a places : ℕ) (trace : List ℕ) (T : Tabled) → length (T .rows) + length trace ≤ places → overflows k a places trace T ≡ false
+fits-from k a places [] T h = refl
+fits-from k a places (p ∷ ps) T h =
+    let more = one-row-more k a (T .s) p (T .rows) in
+    or-none _ _ (le-ltb places (length (tabledNext k a p T .rows)) (omega arith)) (fits-from k a places ps (tabledNext k a p T) (omega arith))
+
+-- a table with a place for each request does not overflow
+pub no-overflow : (k a places : ℕ) (trace : List ℕ) → length trace ≤ places → overflows k a places trace nothingYet ≡ false
+no-overflow k a places trace h = fits-from k a places trace nothingYet (omega arith)
+
+-- The state that stands for a trace
+
+abbrev pub runAfter : (k a : ℕ) (trace : List ℕ) → LayersRun
+runAfter k a trace = record {
+  k = k;
+  a = a;
+  requests = length trace;
+  evictions = joinCount k a trace;
+  s = layersAfter k a trace noLayers .top;
+}
+
+pub record Stands (k a : ℕ) (trace : List ℕ) (run : LayersRun) (pages numbers : List ℕ) : Type 0 where
+  pub a-low : 1 ≤ a
+  pub a-high : a ≤ k
+  pub k-high : k ≤ 256
+  pub run-is : run ≡ runAfter k a trace
+  pub one-length : length pages ≡ length numbers
+  pub table-is : rowsOf numbers pages ≡ tableOf (length pages) (tabledAfter k a trace nothingYet .rows)
+  pub room : length (tabledAfter k a trace nothingYet .rows) ≤ length pages
+  pub well : wellFormed run (rowsOf numbers pages) ≡ true
+
+after-well : (k a : ℕ) → 1 ≤ a → a ≤ k → (trace : List ℕ) (places : ℕ)
+    → wellFormed (runAfter k a trace) (tableOf places (tabledAfter k a trace nothingYet .rows)) ≡ true
+after-well k a pos le trace places =
+    formed-table k a (length trace) (joinCount k a trace) (layersAfter k a trace noLayers .top) places (tabledAfter k a trace nothingYet .rows)
+    (subst (λ s. FormedRows k a s (tabledAfter k a trace nothingYet .rows)) (tabled-top k a trace) (tabled-formed k a pos le trace))
+    (joins-most k a trace)
+
+length-pages : (rows : List Row) → length (pagesOf rows) ≡ length rows
+length-pages [] = refl
+length-pages (row ∷ rows) = ap suc (length-pages rows)
+
+length-numbers : (rows : List Row) → length (numbersOf rows) ≡ length rows
+length-numbers [] = refl
+length-numbers (row ∷ rows) = ap suc (length-numbers rows)
+
+length-table : (places : ℕ) (rows : List Row) → length rows ≤ places → length (tableOf places rows) ≡ places
+length-table places rows h =
+    omega (arith, length-append rows (replicate (places - length rows) unused), length-replicate (places - length rows) unused)
+
+-- a table that is filled with the rows of a trace stands for it, with the record of the trace
+pub table-stands : (k a : ℕ) → 1 ≤ a → a ≤ k → k ≤ 256 → (trace : List ℕ) (places : ℕ) → length (tabledAfter k a trace nothingYet .rows) ≤ places
+    → let table = tableOf places (tabledAfter k a trace nothingYet .rows) in Stands k a trace (runAfter k a trace) (pagesOf table) (numbersOf table)
+table-stands k a pos le top trace places h =
+    let rows = tabledAfter k a trace nothingYet .rows in
+    let table = tableOf places rows in
+    let long : length (pagesOf table) ≡ places = length-pages table ∙ length-table places rows h in
+    record {
+      a-low = pos;
+      a-high = le;
+      k-high = top;
+      run-is = refl;
+      one-length = length-pages table ∙ sym (length-numbers table);
+      table-is = rw long (rows-back table);
+      room = omega arith;
+      well = rw (rows-back table) (after-well k a pos le trace places);
+    }
+
+-- the empty state stands for the empty trace
+pub start-stands : (k a : ℕ) → 1 ≤ a → a ≤ k → k ≤ 256 → (n : ℕ) → Stands k a [] (emptyRun k a) (replicate n 0) (replicate n 0)
+start-stands k a pos le top n =
+    let whole : n ≡ n - 0 = omega arith in
+    let empty : rowsOf (replicate n 0) (replicate n 0) ≡ tableOf n [] = zeros n ∙ ap (λ m. replicate m unused) whole in
+    record {
+      a-low = pos;
+      a-high = le;
+      k-high = top;
+      run-is = refl;
+      one-length = refl;
+      table-is = rw (length-replicate {A = ℕ} n 0) empty;
+      room = omega arith;
+      well = rw empty (after-well k a pos le [] n);
+    }
+  where
+    zeros : (m : ℕ) → rowsOf (replicate m 0) (replicate m 0) ≡ replicate m unused
+    zeros zero = refl
+    zeros (suc m) = ap (λ rows. unused ∷ rows) (zeros m)
+
+-- Refusals
+
+-- a condition that did not refuse does not hold, nor any behind it
+passed : (b : Bool) (number rest : ℕ) → 0 < number → refuse b number rest ≡ 0 → (b ≡ false) × (rest ≡ 0)
+passed true number rest h e = absurd (omega arith)
+passed false number rest h e = (refl, e)
+
+-- no call on such a state is refused with 1, 2, 8 or 9
+pub never-ill-formed : (k a : ℕ) (trace : List ℕ) (run : LayersRun) (pages numbers : List ℕ) → Stands k a trace run pages numbers
+    → (rest : ℕ) → stateRefusal run pages numbers rest ≡ rest
+unfolding stateRefusal sizesRefusal
+never-ill-formed k a trace run pages numbers S rest =
+    let pos = S .a-low in
+    let le = S .a-high in
+    let top = S .k-high in
+    let same-k : run .k ≡ k = ap (λ r. r .k) (S .run-is) in
+    let same-a : run .a ≡ a = ap (λ r. r .a) (S .run-is) in
+    let sized : eqb (run .k) 0 or ltb 256 (run .k) ≡ false = or-none _ _ (ne-eqb (run .k) 0 (λ e. omega arith)) (le-ltb 256 (run .k) (omega arith)) in
+    let bundled : eqb (run .a) 0 or ltb (run .k) (run .a) ≡ false = or-none _ _ (ne-eqb (run .a) 0 (λ e. omega arith)) (le-ltb (run .k) (run .a) (omega arith)) in
+    let long : eqb (length pages) (length numbers) ≡ true = eq-eqb _ _ (S .one-length) in
+    rw (sized, bundled, long, S .well)
+
+-- a refused request leaves both lists as they are
+pub refusal-keeps : (run : LayersRun) (pages numbers : List ℕ) (p : ℕ) → (requestRefusal run pages numbers p ≡ 0 → ⊥)
+    → (pagesNext run pages numbers p ≡ pages) × (numbersNext run pages numbers p ≡ numbers)
+unfolding pagesNext numbersNext
+refusal-keeps run pages numbers p h =
+    let e : eqb (requestRefusal run pages numbers p) 0 ≡ false = ne-eqb _ _ h in
+    (rw e, rw e)
+
+-- the answer has the refusal's number
+pub reply-refusal : (run : LayersRun) (pages numbers : List ℕ) (p : ℕ) → requestReply run pages numbers p .refusal ≡ requestRefusal run pages numbers p
+unfolding requestReply
+reply-refusal run pages numbers p =
+    cases (eqb (requestRefusal run pages numbers p) 0)
+    (λ e. rw e (let z : requestRefusal run pages numbers p ≡ 0 = omega tests in sym z))
+    (λ e. rw e)
+
+-- An accepted request
+
+accepted-run : (run : LayersRun) (pages numbers : List ℕ) (p : ℕ) → requestRefusal run pages numbers p ≡ 0
+    → requestReply run pages numbers p .run ≡ runNext run p (rowsOf numbers pages)
+unfolding requestReply
+accepted-run run pages numbers p e = rw e
+
+accepted-pages : (run : LayersRun) (pages numbers : List ℕ) (p : ℕ) → requestRefusal run pages numbers p ≡ 0
+    → pagesNext run pages numbers p ≡ pagesOf (tableNext run pages numbers p)
+unfolding pagesNext
+accepted-pages run pages numbers p e = rw e
+
+accepted-numbers : (run : LayersRun) (pages numbers : List ℕ) (p : ℕ) → requestRefusal run pages numbers p ≡ 0
+    → numbersNext run pages numbers p ≡ numbersOf (tableNext run pages numbers p)
+unfolding numbersNext
+accepted-numbers run pages numbers p e = rw e
+
+-- a request that is not refused has room for its rows
+not-full : (run : LayersRun) (pages numbers : List ℕ) (p : ℕ) → ((rest : ℕ) → stateRefusal run pages numbers rest ≡ rest)
+    → requestRefusal run pages numbers p ≡ 0 → length (rowsNext run p (rowsOf numbers pages)) ≤ length pages
+unfolding requestRefusal
+not-full run pages numbers p formed e =
+    let full = ltb (length pages) (length (rowsNext run p (rowsOf numbers pages))) in
+    let ended = eqb (run .requests) 4294967295 in
+    let later = passed ended 12 (refuse full 10 0) (omega arith) (sym (formed (refuse ended 12 (refuse full 10 0))) ∙ e) in
+    ltb-false _ _ (passed full 10 0 (omega arith) (later .1) .0)
+
+module _ (k a : ℕ) (trace : List ℕ) (run : LayersRun) (pages numbers : List ℕ) (S : Stands k a trace run pages numbers) where
+  -- the used rows are those of the trace
+  pub used-is : usedRows (rowsOf numbers pages) ≡ tabledAfter k a trace nothingYet .rows
+  used-is =
+      rw (S .table-is) (used-table (length pages) (tabledAfter k a trace nothingYet .rows) (tabled-formed k a (S .a-low) (S .a-high) trace .above))
+
+  top-is : run .s ≡ tabledAfter k a trace nothingYet .s
+  top-is = ap (λ r. r .s) (S .run-is) ∙ sym (tabled-top k a trace)
+
+  same-rule : (p : ℕ) → ruleNext run p (rowsOf numbers pages) ≡ ruleIn k (tabledAfter k a trace nothingYet .s) p (tabledAfter k a trace nothingYet .rows)
+  same-rule p = rw (used-is, top-is, ap (λ r. r .k) (S .run-is))
+
+  same-rows : (p : ℕ) → rowsNext run p (rowsOf numbers pages) ≡ tabledAfter k a (trace ++ (p ∷ [])) nothingYet .rows
+  same-rows p =
+      rw (used-is, top-is, ap (λ r. r .k) (S .run-is), ap (λ r. r .a) (S .run-is))
+      (sym (ap (λ T. T .rows) (tabled-snoc k a trace p nothingYet)))
+
+  room-kept : (p : ℕ) → requestRefusal run pages numbers p ≡ 0 → length (tabledAfter k a (trace ++ (p ∷ [])) nothingYet .rows) ≤ length pages
+  room-kept p e =
+      rw (← same-rows p) (not-full run pages numbers p (never-ill-formed k a trace run pages numbers S) e)
+
+  same-run : (p : ℕ) → runNext run p (rowsOf numbers pages) ≡ runAfter k a (trace ++ (p ∷ []))
+  same-run p =
+      let T = tabledAfter k a trace nothingYet in
+      let next = tabled-snoc k a trace p nothingYet in
+      let same-k : run .k ≡ k = ap (λ r. r .k) (S .run-is) in
+      let same-a : run .a ≡ a = ap (λ r. r .a) (S .run-is) in
+      let more : run .requests + 1 ≡ length (trace ++ (p ∷ [])) = omega (arith, ap (λ r. r .requests) (S .run-is), length-append trace (p ∷ [])) in
+      let joined : run .evictions + bit (isJoin (ruleNext run p (rowsOf numbers pages))) ≡ joinCount k a (trace ++ (p ∷ [])) =
+      omega (
+        arith,
+        ap (λ r. r .evictions) (S .run-is),
+        tabled-joins k a trace,
+        tabled-joins k a (trace ++ (p ∷ [])),
+        ap (λ U. U .joins) next,
+        ap (λ r. bit (isJoin r)) (same-rule p),
+      ) in
+      let above : topAfter (ruleNext run p (rowsOf numbers pages)) (run .k) (run .a) (run .s) ≡ layersAfter k a (trace ++ (p ∷ [])) noLayers .top =
+      rw (same-rule p, same-k, same-a, top-is) (sym (ap (λ U. U .s) next) ∙ tabled-top k a (trace ++ (p ∷ []))) in
+      λ i. record { k = same-k i; a = same-a i; requests = more i; evictions = joined i; s = above i }
+
+-- an accepted request leads to the state that stands for the trace with its page behind
+pub request-stands : (k a : ℕ) (trace : List ℕ) (run : LayersRun) (pages numbers : List ℕ) → Stands k a trace run pages numbers
+    → (p : ℕ) → requestRefusal run pages numbers p ≡ 0
+    → Stands k a (trace ++ (p ∷ [])) (requestReply run pages numbers p .run) (pagesNext run pages numbers p) (numbersNext run pages numbers p)
+request-stands k a trace run pages numbers S p e =
+    rw (
+      accepted-run run pages numbers p e,
+      accepted-pages run pages numbers p e,
+      accepted-numbers run pages numbers p e,
+      same-run k a trace run pages numbers S p,
+      same-rows k a trace run pages numbers S p,
+    )
+    (table-stands k a (S .a-low) (S .a-high) (S .k-high) (trace ++ (p ∷ [])) (length pages) (room-kept k a trace run pages numbers S p e))
+
+-- Questions
+
+module _ (k a : ℕ) (trace : List ℕ) (run : LayersRun) (pages numbers : List ℕ) (S : Stands k a trace run pages numbers) where
+  -- each page's number in the table is its layer
+  pub map-agrees : (q : ℕ) → numberIn (usedRows (rowsOf numbers pages)) q ≡ layersAfter k a trace noLayers .of q
+  map-agrees q = rw (used-is k a trace run pages numbers S) (tabled-map k a trace q)
+
+  -- the record and the table hold the layers of the trace
+  pub layers-agree : layersIn run (rowsOf numbers pages) ≡ layersAfter k a trace noLayers
+  layers-agree = λ i. record { of = λ q. map-agrees q i; top = ap (λ r. r .s) (S .run-is) i }
+
+  -- a set without repeats is judged by the layers of the trace
+  pub verdict-agrees : (set : List ℕ) → distinct set ≡ true → verdict run pages numbers set ≡ judged (layersAfter k a trace noLayers) set
+  verdict-agrees set d = unfold verdict possibleRefusal in
+      rw (never-ill-formed k a trace run pages numbers S (refuse (not (distinct set)) 11 0), d)
+      (ap (λ L. judged L set) layers-agree)
+
+abbrev isPossible : Verdict → Bool
+isPossible (refusedWith number) = false
+isPossible possibleSet = true
+isPossible countDiffers = false
+isPossible broken = false
+
+judged-possible : (L : Layers) (set : List ℕ) → isPossible (judged L set) ≡ possible L set
+judged-possible L set = one (eqb (length set) (L .top)) (holdsUpTo L set (L .top))
+  where
+    one : (b c : Bool) → isPossible (pick b (pick c possibleSet broken) countDiffers) ≡ b and c
+    one true true = unfold _and_ in refl
+    one true false = unfold _and_ in refl
+    one false c = unfold _and_ in refl
+
+only-possible : (v : Verdict) → isPossible v ≡ true → v ≡ possibleSet
+only-possible (refusedWith number) e = absurd (false≢true e)
+only-possible possibleSet e = refl
+only-possible countDiffers e = absurd (false≢true e)
+only-possible broken e = absurd (false≢true e)
+
+only-yes : (r : PossibleAnswer) → isPossible (verdictOf r) ≡ true → r ≡ Yes
+only-yes Yes e = refl
+only-yes CountDiffers e = absurd (false≢true e)
+only-yes (BrokenAt i) e = absurd (false≢true e)
+only-yes (Refused number) e = absurd (false≢true e)
+
+module _ (k a : ℕ) (trace : List ℕ) (run : LayersRun) (pages numbers : List ℕ) (S : Stands k a trace run pages numbers) (set : List ℕ) (d : distinct set ≡ true) where
+  told : isPossible (verdict run pages numbers set) ≡ possible (layersAfter k a trace noLayers) set
+  told =
+      ap isPossible (verdict-agrees k a trace run pages numbers S set d) ∙ judged-possible (layersAfter k a trace noLayers) set
+
+  -- a set without repeats is judged possible exactly if it is possible by the layers of the trace
+  pub possible-agrees :
+      (verdict run pages numbers set ≡ possibleSet → possible (layersAfter k a trace noLayers) set ≡ true)
+      × (possible (layersAfter k a trace noLayers) set ≡ true → verdict run pages numbers set ≡ possibleSet)
+  possible-agrees = (λ e. sym told ∙ ap isPossible e, λ e. only-possible (verdict run pages numbers set) (told ∙ e))
+
+  -- an answer that keeps the promise of the question is Yes exactly then
+  pub yes-exactly : (r : PossibleAnswer) → PossibleTold run pages numbers set r
+      → (r ≡ Yes → possible (layersAfter k a trace noLayers) set ≡ true) × (possible (layersAfter k a trace noLayers) set ≡ true → r ≡ Yes)
+  yes-exactly r P = (
+    λ e. sym told ∙ sym (ap isPossible (P .verdict-told)) ∙ ap (λ z. isPossible (verdictOf z)) e,
+    λ e. only-yes r (ap isPossible (P .verdict-told) ∙ told ∙ e),
+  )
+
+-- The call over a whole trace
+
+sizes-passed : (k a rest : ℕ) → sizesRefusal k a rest ≡ 0 → (1 ≤ a) × (a ≤ k) × (k ≤ 256) × (rest ≡ 0)
+unfolding sizesRefusal
+sizes-passed k a rest e =
+    let first = passed (eqb k 0 or ltb 256 k) 1 (refuse (eqb a 0 or ltb k a) 2 rest) (omega arith) e in
+    let second = passed (eqb a 0 or ltb k a) 2 rest (omega arith) (first .1) in
+    let large : k ≤ 256 = ltb-false _ _ (or-none-r _ _ (first .0)) in
+    let none : eqb a 0 ≡ false = or-none-l _ _ (second .0) in
+    let less : a ≤ k = ltb-false _ _ (or-none-r _ _ (second .0)) in
+    (omega tests, less, large, second .1)
+
+rows-fit : (k a places : ℕ) (trace : List ℕ) (T : Tabled) → length (T .rows) ≤ places → overflows k a places trace T ≡ false
+    → length (tabledAfter k a trace T .rows) ≤ places
+rows-fit k a places [] T h e = h
+rows-fit k a places (p ∷ ps) T h e =
+    rows-fit k a places ps (tabledNext k a p T) (ltb-false _ _ (or-none-l _ _ e)) (or-none-r _ _ e)
+
+trace-passed : (k a : ℕ) (trace pages numbers : List ℕ) → traceRefusal k a trace pages numbers ≡ 0
+    → (1 ≤ a) × (a ≤ k) × (k ≤ 256) × (overflows k a (length pages) trace nothingYet ≡ false)
+unfolding traceRefusal
+trace-passed k a trace pages numbers e =
+    let full = overflows k a (length pages) trace nothingYet in
+    let used = not (allUnused (rowsOf numbers pages)) in
+    let uneven = not (eqb (length pages) (length numbers)) in
+    let long = ltb 65536 (length trace) in
+    let sizes = sizes-passed k a (refuse long 3 (refuse uneven 8 (refuse used 9 (refuse full 10 0)))) e in
+    let third = passed long 3 (refuse uneven 8 (refuse used 9 (refuse full 10 0))) (omega arith) (sizes .3) in
+    let eighth = passed uneven 8 (refuse used 9 (refuse full 10 0)) (omega arith) (third .1) in
+    let ninth = passed used 9 (refuse full 10 0) (omega arith) (eighth .1) in
+    (sizes .0, sizes .1, sizes .2, passed full 10 0 (omega arith) (ninth .1) .0)
+
+-- the lists that the call leaves stand for the trace, as after single calls
+pub trace-stands : (k a : ℕ) (trace pages numbers : List ℕ) → traceRefusal k a trace pages numbers ≡ 0
+    → Stands k a trace (runAfter k a trace) (pagesOver k a trace pages numbers) (numbersOver k a trace pages numbers)
+unfolding pagesOver numbersOver
+trace-stands k a trace pages numbers e =
+    let ok = trace-passed k a trace pages numbers e in
+    rw e (table-stands k a (ok .0) (ok .1) (ok .2) trace (length pages) (rows-fit k a (length pages) trace nothingYet (omega arith) (ok .3)))
+
+-- its answer is the layers' count, s and revealed pages
+pub trace-counts : (k a : ℕ) (trace pages numbers : List ℕ) → traceRefusal k a trace pages numbers ≡ 0
+    → traceTotals k a trace pages numbers
+    ≡ record {
+      refusal = 0;
+      evictions = joinCount k a trace;
+      s = layersAfter k a trace noLayers .top;
+      revealed = revealed (layersAfter k a trace noLayers .top) (tabledAfter k a trace nothingYet .rows);
+    }
+unfolding traceTotals
+trace-counts k a trace pages numbers e = rw (e, tabled-joins k a trace, tabled-top k a trace)
+
+-- it is not refused where the sizes are right, the trace is not too long, and the table is unused and has a place for each request
+pub trace-accepted : (k a : ℕ) → 1 ≤ a → a ≤ k → k ≤ 256 → (trace : List ℕ) → length trace ≤ 65536 → (n : ℕ) → length trace ≤ n
+    → traceRefusal k a trace (replicate n 0) (replicate n 0) ≡ 0
+unfolding traceRefusal sizesRefusal
+trace-accepted k a pos le top trace short n h =
+    let sized : eqb k 0 or ltb 256 k ≡ false = or-none _ _ (ne-eqb k 0 (λ e. omega arith)) (le-ltb 256 k (omega arith)) in
+    let bundled : eqb a 0 or ltb k a ≡ false = or-none _ _ (ne-eqb a 0 (λ e. omega arith)) (le-ltb k a (omega arith)) in
+    let fits : overflows k a (length (replicate {A = ℕ} n 0)) trace nothingYet ≡ false = rw (length-replicate {A = ℕ} n 0) (no-overflow k a n trace h) in
+    rw (sized, bundled, le-ltb 65536 (length trace) short, eq-eqb (length (replicate {A = ℕ} n 0)) (length (replicate {A = ℕ} n 0)) refl, zeros-unused n, fits)
+  where
+    zeros-unused : (m : ℕ) → allUnused (rowsOf (replicate m 0) (replicate m 0)) ≡ true
+    zeros-unused zero = refl
+    zeros-unused (suc m) = and-i _ _ (unfold isUnused _and_ in refl) (zeros-unused m)

@@ -1,0 +1,20 @@
+use mathlib.Core.Path.{ap}
+use Rattle.layers.specs.declared.LayersRun.{LayersRun}
+use Rattle.layers.specs.declared.LayersReply.{LayersReply}
+use borrow.Author.Needs.{needs}
+use Rattle.layers.proofs.refused.Statement.{statement}
+use Rattle.layers.proofs.refused.Tie as tie
+use Rattle.layers.proofs.refused.Reads as reads
+use Rattle.layers.proofs.refused.Lts as lts
+use Rattle.layers.proofs.LayersRun.empty.Reads as empty-reads
+
+-- src/lib.rt:102:14
+empty-requires : tie.Need-empty-requires
+empty-requires c κs = search needs
+
+-- src/lib.rt:97:1
+returns : tie.Need-returns
+returns c = ap (λ (run : LayersRun). record { refusal = c .before .args .number; run = run }) (c .empty .ensures)
+
+pub refused-spec : {M : Type 1} → statement M
+refused-spec = tie.close (tie.spec empty-requires returns)

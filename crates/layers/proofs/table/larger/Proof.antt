@@ -1,0 +1,23 @@
+use native.Mathlib.Omega.{arith}
+use Rattle.lists.proofs.Choice.{tests}
+use borrow.Author.Tests.{eq-eqb, ne-eqb}
+use borrow.Author.Needs.{needs}
+use Rattle.layers.proofs.table.larger.Statement.{statement}
+use Rattle.layers.proofs.table.larger.Tie as tie
+use Rattle.layers.proofs.table.larger.Reads as reads
+use Rattle.layers.proofs.table.larger.Lts as lts
+
+-- src/table.rt:24:13
+returns : tie.Need-returns
+returns c = rw (eq-eqb _ _ (c .before .if1 .taken)) (omega arith)
+
+-- src/table.rt:26:9
+returns-2 : tie.Need-returns-2
+returns-2 c = rw (eq-eqb _ _ (c .before .if1 .taken)) (omega arith)
+
+-- src/table.rt:19:1
+returns-3 : tie.Need-returns-3
+returns-3 c = rw (ne-eqb _ _ (c .if1 .left)) (omega arith)
+
+pub larger-spec : {M : Type 1} → statement M
+larger-spec = tie.close (tie.spec returns returns-2 returns-3)

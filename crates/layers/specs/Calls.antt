@@ -1,0 +1,84 @@
+-- A request to the layers (document 01, "Layers"): its refusals in order, its answer and both lists afterwards.
+use Prim.Native.Nat.{ℕ, _+_}
+use mathlib.Core.Bool.{Bool, not}
+use mathlib.Core.List.{List}
+use lib.Dec.{eqb, ltb}
+use lib.ListN.{length}
+use Rattle.lists.specs.Choice.{pick}
+use Rattle.lists.specs.Pages.{bit}
+use Rattle.lists.specs.Sorting.{Row}
+use Rattle.paging.specs.Refusals.{refuse, sizesRefusal}
+use Rattle.paging.specs.Layers.{LayerRule, append, join, lift, isJoin, topAfter}
+use Rattle.paging.specs.Table.{ruleIn, rowsAfter}
+use Rattle.layers.specs.Rows.{rowsOf, numbersOf, pagesOf, usedRows, tableOf}
+use Rattle.layers.specs.Formed.{wellFormed}
+use Rattle.layers.specs.declared.LayersRun.{LayersRun}
+use Rattle.layers.specs.declared.LayersReply.{LayersReply}
+use Rattle.layers.specs.declared.RuleApplied.{RuleApplied}
+use Rattle.layers.specs.declared.RuleApplied.the-variants.{Append, Join, Lift}
+
+-- the rule of Figure 1 that each case of the code's enum stands for
+abbrev pub ruleOf : RuleApplied → LayerRule
+ruleOf Append = append
+ruleOf Join = join
+ruleOf Lift = lift
+
+-- the empty state
+abbrev pub emptyRun : (k a : ℕ) → LayersRun
+emptyRun k a = record { k = k; a = a; requests = 0; evictions = 0; s = 0 }
+
+-- the refusals of every call that gets a record and a table, in order: 1, 2, 8, 9, then the call's own
+unfoldable pub stateRefusal : LayersRun → (pages numbers : List ℕ) → ℕ → ℕ
+stateRefusal run pages numbers rest =
+    sizesRefusal (run .k) (run .a)
+    (refuse (not (eqb (length pages) (length numbers))) 8
+    (refuse (not (wellFormed run (rowsOf numbers pages))) 9
+    rest))
+
+-- the used rows after a request for p
+abbrev pub rowsNext : LayersRun → (p : ℕ) → List Row → List Row
+rowsNext run p rows = rowsAfter (run .k) (run .a) (run .s) p (usedRows rows)
+
+-- the rule that a request for p applies
+abbrev pub ruleNext : LayersRun → (p : ℕ) → List Row → LayerRule
+ruleNext run p rows = ruleIn (run .k) (run .s) p (usedRows rows)
+
+-- the record after a request for p. 1b counts one bundle
+abbrev pub runNext : LayersRun → (p : ℕ) → List Row → LayersRun
+runNext run p rows = record {
+  k = run .k;
+  a = run .a;
+  requests = run .requests + 1;
+  evictions = run .evictions + bit (isJoin (ruleNext run p rows));
+  s = topAfter (ruleNext run p rows) (run .k) (run .a) (run .s);
+}
+
+-- the refusals of a request: behind those of the state 12 for the counter, and 10 where the pages after the request are more than the places
+unfoldable pub requestRefusal : LayersRun → (pages numbers : List ℕ) → (p : ℕ) → ℕ
+requestRefusal run pages numbers p =
+    stateRefusal run pages numbers
+    (refuse (eqb (run .requests) 4294967295) 12
+    (refuse (ltb (length pages) (length (rowsNext run p (rowsOf numbers pages)))) 10
+    0))
+
+-- a refusal is its number, and zero in every other field
+abbrev pub refused : ℕ → LayersReply
+refused number = record { refusal = number; run = emptyRun 0 0 }
+
+unfoldable pub requestReply : LayersRun → (pages numbers : List ℕ) → (p : ℕ) → LayersReply
+requestReply run pages numbers p =
+    let number = requestRefusal run pages numbers p in
+    pick (eqb number 0) (record { refusal = 0; run = runNext run p (rowsOf numbers pages) }) (refused number)
+
+-- the table after an accepted request for p
+abbrev pub tableNext : LayersRun → (pages numbers : List ℕ) → (p : ℕ) → List Row
+tableNext run pages numbers p = tableOf (length pages) (rowsNext run p (rowsOf numbers pages))
+
+-- both lists after a request; a refusal leaves them as they are
+unfoldable pub pagesNext : LayersRun → (pages numbers : List ℕ) → (p : ℕ) → List ℕ
+pagesNext run pages numbers p =
+    pick (eqb (requestRefusal run pages numbers p) 0) (pagesOf (tableNext run pages numbers p)) pages
+
+unfoldable pub numbersNext : LayersRun → (pages numbers : List ℕ) → (p : ℕ) → List ℕ
+numbersNext run pages numbers p =
+    pick (eqb (requestRefusal run pages numbers p) 0) (numbersOf (tableNext run pages numbers p)) numbers

@@ -1,0 +1,84 @@
+-- The layers over a whole lent trace, into a lent table that is all unused.
+use Prim.Native.Nat.{ℕ, _+_}
+use mathlib.Core.Bool.{Bool, true, false, not}
+use mathlib.Core.List.{List, [], _∷_}
+use lib.Dec.{eqb, ltb}
+use lib.ListN.{length}
+use Rattle.lists.specs.Choice.{pick, _and_, _or_}
+use Rattle.lists.specs.Pages.{bit}
+use Rattle.lists.specs.Sorting.{Row}
+use Rattle.paging.specs.Refusals.{refuse, sizesRefusal}
+use Rattle.paging.specs.Layers.{isJoin, topAfter}
+use Rattle.paging.specs.Table.{ruleIn, rowsAfter, revealed}
+use Rattle.layers.specs.Rows.{rowsOf, numbersOf, pagesOf, tableOf}
+use Rattle.layers.specs.Formed.{isUnused}
+use Rattle.layers.specs.declared.LayersTotals.{LayersTotals}
+
+-- the used rows, s, and the bundles counted so far
+pub record Tabled : Type 0 where
+  pub rows : List Row
+  pub s : ℕ
+  pub joins : ℕ
+
+abbrev pub nothingYet : Tabled
+nothingYet = record { rows = []; s = 0; joins = 0 }
+
+-- after one request
+abbrev pub tabledNext : (k a p : ℕ) → Tabled → Tabled
+tabledNext k a p T =
+    let rule = ruleIn k (T .s) p (T .rows) in
+    record {
+      rows = rowsAfter k a (T .s) p (T .rows);
+      s = topAfter rule k a (T .s);
+      joins = T .joins + bit (isJoin rule);
+    }
+
+-- after the requests of a trace
+abbrev pub tabledAfter : (k a : ℕ) → (trace : List ℕ) → Tabled → Tabled
+tabledAfter k a [] T = T
+tabledAfter k a (p ∷ ps) T = tabledAfter k a ps (tabledNext k a p T)
+
+-- after some request there are more pages than the table has places
+abbrev pub overflows : (k a places : ℕ) → (trace : List ℕ) → Tabled → Bool
+overflows k a places [] T = false
+overflows k a places (p ∷ ps) T =
+    ltb places (length (tabledNext k a p T .rows)) or overflows k a places ps (tabledNext k a p T)
+
+abbrev pub allUnused : List Row → Bool
+allUnused [] = true
+allUnused (row ∷ rows) = isUnused row and allUnused rows
+
+-- the refusals in order: 1, 2, 3, 8, 9 where the table is not all unused, 10 where it falls
+unfoldable pub traceRefusal : (k a : ℕ) → (trace pages numbers : List ℕ) → ℕ
+traceRefusal k a trace pages numbers =
+    sizesRefusal k a
+    (refuse (ltb 65536 (length trace)) 3
+    (refuse (not (eqb (length pages) (length numbers))) 8
+    (refuse (not (allUnused (rowsOf numbers pages))) 9
+    (refuse (overflows k a (length pages) trace nothingYet) 10
+    0))))
+
+abbrev pub refusedTotals : (number : ℕ) → LayersTotals
+refusedTotals number = record { refusal = number; evictions = 0; s = 0; revealed = 0 }
+
+-- bundles, s and revealed pages after the trace; a refusal is its number, and zero in every other field
+unfoldable pub traceTotals : (k a : ℕ) → (trace pages numbers : List ℕ) → LayersTotals
+traceTotals k a trace pages numbers =
+    let number = traceRefusal k a trace pages numbers in
+    let T = tabledAfter k a trace nothingYet in
+    pick (eqb number 0)
+    (record { refusal = 0; evictions = T .joins; s = T .s; revealed = revealed (T .s) (T .rows) })
+    (refusedTotals number)
+
+-- both lists afterwards: the table holds the layers of the trace; a refusal leaves the lists as they were lent
+unfoldable pub pagesOver : (k a : ℕ) → (trace pages numbers : List ℕ) → List ℕ
+pagesOver k a trace pages numbers =
+    pick (eqb (traceRefusal k a trace pages numbers) 0)
+    (pagesOf (tableOf (length pages) (tabledAfter k a trace nothingYet .rows)))
+    pages
+
+unfoldable pub numbersOver : (k a : ℕ) → (trace pages numbers : List ℕ) → List ℕ
+numbersOver k a trace pages numbers =
+    pick (eqb (traceRefusal k a trace pages numbers) 0)
+    (numbersOf (tableOf (length pages) (tabledAfter k a trace nothingYet .rows)))
+    numbers

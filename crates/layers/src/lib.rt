@@ -1,0 +1,211 @@
+// The layers of document 01 ("Layers", "Possible set"; source document 001, Figure 1), one request at a time on a record by value and a lent
+// table of two lists, with the questions on them, and over a whole trace. The definitions are in specs/.
+ghost use mathlib.Core.Path.{_≡_};
+ghost use Rattle.layers.specs.Calls.{emptyRun, stateRefusal, requestReply, pagesNext, numbersNext, refused};
+ghost use Rattle.layers.specs.Questions.{RevealedTold, PossibleTold};
+use paging::Sizes;
+ghost use Rattle.layers.specs.Traces.{refusedTotals, traceTotals, pagesOver, numbersOver};
+
+mod formed;
+mod questions;
+mod table;
+mod trace;
+
+// The layers' record: the sizes, the requests and bundles counted, and s, the number of the last layer.
+pub struct LayersRun {
+    pub k: u32,
+    pub a: u32,
+    pub requests: u32,
+    pub evictions: u32,
+    pub s: u32,
+}
+
+impl LayersRun {
+    // The largest k.
+    pub const K_MAX: u32 = 256;
+    // At this many requests a further one is refused (12).
+    pub const COUNTER_MAX: u32 = 4294967295;
+
+    // The empty state. Its table is all unused, of any size.
+    pub fn empty(k: u32, a: u32) -> LayersRun
+        ensures { λ r. ⌜ r ≡ emptyRun k a ⌝ }
+    {
+        LayersRun {
+            k,
+            a,
+            requests: 0,
+            evictions: 0,
+            s: 0,
+        }
+    }
+}
+
+// The rule of Figure 1 that a request applies: 1a appends a layer, 1b joins layers, 1c lifts a page out of its layer.
+pub enum RuleApplied {
+    Append,
+    Join,
+    Lift,
+}
+
+// A request's answer: the new record, or a refusal's number beside a record of zeros.
+pub struct LayersReply {
+    pub refusal: u32,
+    pub run: LayersRun,
+}
+
+// How many pages are revealed, or a refusal's number beside zero.
+pub struct RevealedReply {
+    pub refusal: u32,
+    pub count: u32,
+}
+
+// Whether a set is possible.
+pub enum PossibleAnswer {
+    Yes,
+    CountDiffers,
+    // The rule breaks at this layer.
+    BrokenAt(u32),
+    Refused(u32),
+}
+
+// The layers over a whole trace: bundles, s and revealed pages, or a refusal's number beside zeros.
+pub struct LayersTotals {
+    pub refusal: u32,
+    pub evictions: u32,
+    pub s: u32,
+    pub revealed: u32,
+}
+
+// The refusals of every call on a record and a table: 1, 2, 8, 9, or 0 for none.
+fn state_refusal(run: LayersRun, pages: &[u32], numbers: &[u32]) -> u32
+    ensures { λ r. ⌜ r ≡ stateRefusal run (now (pages .entry)) (now (numbers .entry)) 0 ⌝ }
+{
+    let sizes = Sizes { k: run.k, a: run.a };
+    let no = sizes.refusal();
+    if no != 0 {
+        return no;
+    }
+    if pages.len() != numbers.len() {
+        return 8;
+    }
+    if formed::well_formed(run, pages, numbers) {
+        return 0;
+    }
+    9
+}
+
+fn refused(number: u32) -> LayersReply
+    ensures { λ r. ⌜ r ≡ refused number ⌝ }
+{
+    LayersReply {
+        refusal: number,
+        run: LayersRun::empty(0, 0),
+    }
+}
+
+// A request for a page. A refusal leaves both lists as they are.
+pub fn request(run: LayersRun, pages: &mut [u32], numbers: &mut [u32], page: u32) -> LayersReply
+    ensures { λ r. ⌜ (r ≡ requestReply run (now (pages .entry)) (now (numbers .entry)) page)
+        × (now (pages .exit) ≡ pagesNext run (now (pages .entry)) (now (numbers .entry)) page)
+        × (now (numbers .exit) ≡ numbersNext run (now (pages .entry)) (now (numbers .entry)) page) ⌝ }
+{
+    let no = state_refusal(run, pages, numbers);
+    if no != 0 {
+        return refused(no);
+    }
+    if run.requests == LayersRun::COUNTER_MAX {
+        return refused(12);
+    }
+    let stepped = table::step(run.k, run.a, run.s, page, pages, numbers);
+    if stepped.full {
+        return refused(10);
+    }
+    let rule = stepped.rule;
+    LayersReply {
+        refusal: 0,
+        run: LayersRun {
+            k: run.k,
+            a: run.a,
+            requests: run.requests + 1,
+            evictions: run.evictions + table::bundles(rule),
+            s: stepped.s,
+        },
+    }
+}
+
+// How many pages are revealed: they are the last so many used places.
+pub fn revealed(run: LayersRun, pages: &[u32], numbers: &[u32]) -> RevealedReply
+    ensures { λ r. ⌜ RevealedTold run (now (pages .entry)) (now (numbers .entry)) r ⌝ }
+{
+    let no = state_refusal(run, pages, numbers);
+    if no != 0 {
+        return RevealedReply {
+            refusal: no,
+            count: 0,
+        };
+    }
+    RevealedReply {
+        refusal: 0,
+        count: questions::singles_at_top(numbers, run.s),
+    }
+}
+
+// Whether a set is possible. The count is looked at first; the layer of a "no" is the smallest at which the rule breaks.
+pub fn possible(run: LayersRun, pages: &[u32], numbers: &[u32], set: &[u32]) -> PossibleAnswer
+    ensures { λ r. ⌜ PossibleTold run (now (pages .entry)) (now (numbers .entry)) (now (set .entry)) r ⌝ }
+{
+    let no = state_refusal(run, pages, numbers);
+    if no != 0 {
+        return PossibleAnswer::Refused(no);
+    }
+    if lists::no_page_twice(set) {} else {
+        return PossibleAnswer::Refused(11);
+    }
+    if set.len() != formed::wide(run.s) {
+        return PossibleAnswer::CountDiffers;
+    }
+    let sizes = questions::tally_set(pages, numbers, set);
+    questions::first_broken(&sizes, run.s)
+}
+
+// A refusal of a whole trace.
+fn refused_totals(number: u32) -> LayersTotals
+    ensures { λ r. ⌜ r ≡ refusedTotals number ⌝ }
+{
+    LayersTotals {
+        refusal: number,
+        evictions: 0,
+        s: 0,
+        revealed: 0,
+    }
+}
+
+// The layers over a whole trace, into a table that is all unused. No request is checked: the state is proved to stay well formed.
+pub fn over_trace(
+    k: u32,
+    a: u32,
+    trace: &[u32],
+    pages: &mut [u32],
+    numbers: &mut [u32],
+) -> LayersTotals
+    ensures { λ r. ⌜ (r ≡ traceTotals k a (now (trace .entry)) (now (pages .entry)) (now (numbers .entry)))
+        × (now (pages .exit) ≡ pagesOver k a (now (trace .entry)) (now (pages .entry)) (now (numbers .entry)))
+        × (now (numbers .exit) ≡ numbersOver k a (now (trace .entry)) (now (pages .entry)) (now (numbers .entry))) ⌝ }
+{
+    let no = trace::early_refusal(k, a, trace, pages, numbers);
+    if no != 0 {
+        return refused_totals(no);
+    }
+    let served = trace::serve_all(k, a, trace, pages, numbers);
+    if served.full {
+        trace::clear(pages, numbers);
+        return refused_totals(10);
+    }
+    let s = served.s;
+    LayersTotals {
+        refusal: 0,
+        evictions: served.joins,
+        s,
+        revealed: questions::singles_at_top(numbers, s),
+    }
+}

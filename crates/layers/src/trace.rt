@@ -1,0 +1,98 @@
+// The layers over a whole trace: requests served one after the other on the table, with no check of the state.
+ghost use mathlib.Core.Path.{_≡_};
+ghost use Prim.Native.Nat.{_≤_};
+ghost use lib.ListN.{length, replicate};
+ghost use Rattle.layers.specs.Rows.{rowsOf, unused};
+ghost use Rattle.layers.specs.Serving.{Sound};
+ghost use Rattle.layers.specs.Traces.{allUnused};
+ghost use Rattle.layers.specs.Over.{ServedTo, earlyRefusal};
+use crate::table;
+
+// What the requests of a trace came to: whether the table was too small on the way, s and the bundles counted.
+pub(crate) struct Served {
+    pub full: bool,
+    pub s: u32,
+    pub joins: u32,
+}
+
+// Serves a trace on a table that is all unused. It stops at the first request after which there would be too many pages.
+pub(crate) fn serve_all(
+    k: u32,
+    a: u32,
+    trace: &[u32],
+    pages: &mut [u32],
+    numbers: &mut [u32],
+) -> Served
+    requires { ⌜ (length (now pages) ≡ length (now numbers)) × Sound k a 0 × (length (now trace) ≤ 65536)
+        × (rowsOf (now numbers) (now pages) ≡ replicate (length (now pages)) unused) ⌝ }
+    ensures { λ r. ⌜ ServedTo k a (now (trace .entry)) (length (now (pages .entry))) (rowsOf (now (numbers .exit)) (now (pages .exit))) r ⌝ }
+{
+    let mut s = 0;
+    let mut joins = 0;
+    let mut i = 0;
+    while i < trace.len() {
+        let stepped = table::step(k, a, s, trace[i], pages, numbers);
+        if stepped.full {
+            return Served {
+                full: true,
+                s: 0,
+                joins: 0,
+            };
+        }
+        let rule = stepped.rule;
+        joins += table::bundles(rule);
+        s = stepped.s;
+        i += 1;
+    }
+    Served {
+        full: false,
+        s,
+        joins,
+    }
+}
+
+// Whether every place holds two zeros.
+fn all_unused(pages: &[u32], numbers: &[u32]) -> bool
+    requires { ⌜ length (now pages) ≡ length (now numbers) ⌝ }
+    ensures { λ r. ⌜ r ≡ allUnused (rowsOf (now (numbers .entry)) (now (pages .entry))) ⌝ }
+{
+    let mut i = 0;
+    while i < pages.len() {
+        if numbers[i] != 0 {
+            return false;
+        }
+        if pages[i] != 0 {
+            return false;
+        }
+        i += 1;
+    }
+    true
+}
+
+// The refusals that are judged before the first request, in order: 1, 2, 3, 8, 9; or 0.
+pub(crate) fn early_refusal(k: u32, a: u32, trace: &[u32], pages: &[u32], numbers: &[u32]) -> u32
+    ensures { λ r. ⌜ r ≡ earlyRefusal k a (now (trace .entry)) (now (pages .entry)) (now (numbers .entry)) 0 ⌝ }
+{
+    let sizes = paging::Sizes { k, a }.refusal();
+    if sizes != 0 {
+        return sizes;
+    }
+    if trace.len() > paging::Trace::LONGEST {
+        return 3;
+    }
+    if pages.len() == numbers.len() {
+        if all_unused(pages, numbers) {
+            return 0;
+        }
+        return 9;
+    }
+    8
+}
+
+// The whole table unused again.
+pub(crate) fn clear(pages: &mut [u32], numbers: &mut [u32])
+    ensures { λ _. ⌜ (now (pages .exit) ≡ replicate (length (now (pages .entry))) 0) × (now (numbers .exit) ≡ replicate (length (now (numbers .entry))) 0) ⌝ }
+{
+    lists::moves::fill_zero(pages);
+    lists::moves::fill_zero(numbers);
+}
