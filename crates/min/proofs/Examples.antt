@@ -1,0 +1,50 @@
+-- Worked examples of document 01: the eight-request shift's schedule, its bytes and their length (38 suffice, 37 are too few), and an
+-- empty trace's.
+use Prim.Native.Nat.{ℕ}
+use mathlib.Core.Path.{_≡_, refl}
+use mathlib.Core.Bool.{Bool, true, false}
+use mathlib.Core.List.{List, [], _∷_}
+use lib.Dec.{eqb}
+use lib.ListN.{length, replicate}
+use Rattle.lists.specs.Choice.{_and_, _or_}
+use Rattle.paging.specs.Refusals.{sizesRefusal}
+use Rattle.paging.specs.Min.{farther}
+use Rattle.min.specs.Answers.{traceRefusal, minSchedule, bytesRefusal, scheduleRefusal}
+
+sameBytes : List ℕ → List ℕ → Bool
+sameBytes [] [] = true
+sameBytes [] (y ∷ ys) = false
+sameBytes (x ∷ xs) [] = false
+sameBytes (x ∷ xs) (y ∷ ys) = eqb x y and sameBytes xs ys
+
+-- the eight-request shift, with k 3 and a 2
+shift : List ℕ
+shift = 1 ∷ 2 ∷ 3 ∷ 4 ∷ 2 ∷ 5 ∷ 6 ∷ 1 ∷ []
+
+-- KA 3 2; EV at 3 of 3, 1; EV at 6 of 2, 4
+shiftBytes : List ℕ
+shiftBytes =
+    75 ∷ 65 ∷ 3 ∷ 0 ∷ 2 ∷ 0
+    ∷ 69 ∷ 86 ∷ 3 ∷ 0 ∷ 0 ∷ 0 ∷ 2 ∷ 0 ∷ 3 ∷ 0 ∷ 0 ∷ 0 ∷ 1 ∷ 0 ∷ 0 ∷ 0
+    ∷ 69 ∷ 86 ∷ 6 ∷ 0 ∷ 0 ∷ 0 ∷ 2 ∷ 0 ∷ 2 ∷ 0 ∷ 0 ∷ 0 ∷ 4 ∷ 0 ∷ 0 ∷ 0
+    ∷ []
+
+examples : List Bool
+examples =
+    sameBytes (minSchedule 3 2 shift) shiftBytes
+    ∷ eqb (length (minSchedule 3 2 shift)) 38
+    ∷ eqb (scheduleRefusal 3 2 shift (replicate 38 0)) 0
+    ∷ eqb (scheduleRefusal 3 2 shift (replicate 37 0)) 8
+    ∷ eqb (length (minSchedule 3 2 [])) 6
+    ∷ eqb (length (minSchedule 3 2 (5 ∷ 5 ∷ 5 ∷ []))) 6
+    ∷ eqb (scheduleRefusal 257 1 shift []) 1
+    ∷ eqb (scheduleRefusal 3 4 shift []) 2
+    ∷ []
+
+every : List Bool → Bool
+every [] = true
+every (b ∷ bs) = b and every bs
+
+examples-hold : every examples ≡ true
+unfolding every examples sameBytes shift shiftBytes _and_ _or_ farther sizesRefusal traceRefusal minSchedule bytesRefusal
+examples-hold = refl

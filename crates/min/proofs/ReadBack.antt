@@ -1,0 +1,103 @@
+-- What MIN writes (document 01, "MIN" and "What demand 3 compares"): as many EVs as the best count, a pages in each, so that the
+-- schedule's length is known from the count; and read back they are MIN's bundles. That they are a legal schedule is the theory's.
+use Prim.Native.Nat.{ℕ, zero, suc, _+_, _*_, _≤_, _<_}
+use native.Mathlib.Nat.{zero-add, zero-mul, one-mul, add-mul}
+use native.Mathlib.Omega.{arith}
+use mathlib.Core.Path.{_≡_, refl, sym, _∙_, ap}
+use mathlib.Core.List.{List, [], _∷_, _++_}
+use lib.Dec.{ltb}
+use lib.ListN.{length, take, length-append}
+use lib.Seq.{length-take-le}
+use Rattle.lists.specs.Choice.{pick}
+use Rattle.lists.specs.Pages.{mem, bit, count}
+use Rattle.lists.specs.Sorting.{sortBy}
+use Rattle.lists.proofs.Choice.{tests, cases}
+use Rattle.lists.proofs.Sorting.{length-sort}
+use Rattle.paging.specs.Schedule.{Entry, ev, entriesCost}
+use Rattle.paging.specs.Policy.{Rule, Kind, hit, load, bundled, isBundled, kindOf, serve, kinds, bundles}
+use Rattle.paging.specs.Min.{farther, minRule, bestCount}
+use Rattle.records.specs.Bytes.{evBytes, entryBytes, joined, evLength, scheduleBytes, AllWritable}
+use Rattle.records.specs.Reading.{sizes, readSchedule}
+use Rattle.records.specs.Files.{entriesFrom}
+use Rattle.records.proofs.Lengths.{length-evBytes}
+use Rattle.records.proofs.RoundTrip.{schedule-reads-back}
+use Rattle.min.specs.Answers.{minSchedule}
+
+-- a bundle is made only where k pages are held
+kind-of-cases : (P : Kind → Type 0) (k p : ℕ) (held : List ℕ) → P hit → P load → (k ≤ length held → P bundled) → P (kindOf k p held)
+kind-of-cases P k p held f g h =
+    cases (mem p held) (λ e. rw e f) (λ e. rw e (cases (ltb (length held) k) (λ d. rw d g) (λ d. rw d (h (omega tests)))))
+
+-- it takes a pages
+bundle-many : (k a : ℕ) (later held : List ℕ) → a ≤ k → k ≤ length held → length (minRule a later held) ≡ a
+bundle-many k a later held h g = length-take-le a (sortBy (farther later) held) (omega (arith, length-sort (farther later) held))
+
+-- MIN's bundles, from any buffer
+module _ (k a : ℕ) (pos : 0 < a) (fits : a ≤ k) (small : a ≤ 256) where
+  pub bundles-writable : (t : ℕ) (trace later held : List ℕ) → AllWritable a (bundles (minRule a) k t trace later held)
+  bundles-writable t [] later held = tt
+  bundles-writable t (p ∷ ps) later held =
+      kind-of-cases
+      (λ kind. AllWritable a
+      (pick (isBundled kind) (ev t (minRule a (ps ++ later) held) ∷ bundles (minRule a) k (suc t) ps later (serve (minRule a) k p (ps ++ later) held))
+      (bundles (minRule a) k (suc t) ps later (serve (minRule a) k p (ps ++ later) held))))
+      k p held
+      (bundles-writable (suc t) ps later (serve (minRule a) k p (ps ++ later) held))
+      (bundles-writable (suc t) ps later (serve (minRule a) k p (ps ++ later) held))
+      (λ g.
+      let n = bundle-many k a (ps ++ later) held fits g in
+      ((omega arith, (omega arith, omega arith)), bundles-writable (suc t) ps later (serve (minRule a) k p (ps ++ later) held)))
+
+pub bundles-length : (k a t : ℕ) (trace later held : List ℕ) → a ≤ k
+    → length (joined entryBytes (bundles (minRule a) k t trace later held)) ≡ count isBundled (kinds (minRule a) k trace later held) * evLength a
+bundles-length k a t [] later held h = sym (zero-mul (evLength a))
+bundles-length k a t (p ∷ ps) later held h =
+    let after = serve (minRule a) k p (ps ++ later) held in
+    let bundle = minRule a (ps ++ later) held in
+    let rest = joined entryBytes (bundles (minRule a) k (suc t) ps later after) in
+    let c = count isBundled (kinds (minRule a) k ps later after) in
+    let i : length rest ≡ c * evLength a = bundles-length k a (suc t) ps later after h in
+    kind-of-cases
+    (λ kind. length (joined entryBytes (pick (isBundled kind) (ev t bundle ∷ bundles (minRule a) k (suc t) ps later after) (bundles (minRule a) k (suc t) ps later after)))
+    ≡ (bit (isBundled kind) + c) * evLength a)
+    k p held
+    (i ∙ ap (λ (m : ℕ). m * evLength a) (sym (zero-add c)))
+    (i ∙ ap (λ (m : ℕ). m * evLength a) (sym (zero-add c)))
+    (λ g.
+    let l : length (evBytes t bundle) ≡ evLength a = length-evBytes t bundle ∙ ap evLength (bundle-many k a (ps ++ later) held h g) in
+    let d : (1 + c) * evLength a ≡ evLength a + c * evLength a
+    = add-mul 1 c (evLength a) ∙ ap (λ (m : ℕ). m + c * evLength a) (one-mul (evLength a)) in
+    length-append (evBytes t bundle) rest ∙ ap (λ (m : ℕ). m + length rest) l ∙ ap (λ (m : ℕ). evLength a + m) i ∙ sym d)
+
+bundles-cost : (rule : Rule) (k t : ℕ) (trace later held : List ℕ)
+    → entriesCost (bundles rule k t trace later held) ≡ count isBundled (kinds rule k trace later held)
+bundles-cost rule k t [] later held = refl
+bundles-cost rule k t (p ∷ ps) later held =
+    let after = serve rule k p (ps ++ later) held in
+    let i = bundles-cost rule k (suc t) ps later after in
+    kind-of-cases
+    (λ kind. entriesCost (pick (isBundled kind) (ev t (rule (ps ++ later) held) ∷ bundles rule k (suc t) ps later after) (bundles rule k (suc t) ps later after))
+    ≡ bit (isBundled kind) + count isBundled (kinds rule k ps later after))
+    k p held (omega (arith, i)) (omega (arith, i)) (λ g. omega (arith, i))
+
+-- The theorems
+
+-- the EVs written are as many as the best count, which is what the call reports
+pub evs-are-best : (k a : ℕ) (trace : List ℕ) → entriesCost (bundles (minRule a) k 0 trace [] []) ≡ bestCount k a trace
+evs-are-best k a trace = bundles-cost (minRule a) k 0 trace [] []
+
+-- the schedule's length is 6 for KA and 8 + 4a for each bundle
+pub schedule-long : (k a : ℕ) (trace : List ℕ) → a ≤ k → length (minSchedule k a trace) ≡ 6 + bestCount k a trace * (8 + 4 * a)
+unfolding minSchedule
+schedule-long k a trace h =
+    let l = bundles-length k a 0 trace [] [] h in
+    let s : length (scheduleBytes k a (bundles (minRule a) k 0 trace [] [])) ≡ 6 + length (joined entryBytes (bundles (minRule a) k 0 trace [] [])) = omega arith in
+    s ∙ ap (λ (m : ℕ). 6 + m) l
+
+-- read back, the schedule is the KA and MIN's bundles, with no damage; so it is for a reader that bounds n by a
+pub min-reads-back : (k a : ℕ) (trace : List ℕ) → 0 < k → k ≤ 256 → 0 < a → a ≤ k
+    → (readSchedule a (minSchedule k a trace) 0 ≡ sizes k a 6)
+    × (entriesFrom a (minSchedule k a trace) 0 ≡ record { held = bundles (minRule a) k 0 trace [] []; damage = 0 })
+unfolding minSchedule
+min-reads-back k a trace hk mk ha ma =
+    schedule-reads-back a k a (bundles (minRule a) k 0 trace [] []) hk mk ha ma (bundles-writable k a ha ma (omega arith) 0 trace [] [])

@@ -1,0 +1,44 @@
+use Prim.Native.Nat.{_≤_, _-_}
+use native.Mathlib.Omega.{arith}
+use mathlib.Core.Path.{_≡_, refl}
+use mathlib.Core.List.{map}
+use lib.ListN.{length, length-set}
+use Rattle.min.specs.Keys.{pageOf, over}
+use Rattle.min.proofs.Places.{over-none}
+use Rattle.min.proofs.Written.{pages-turn, pages-done}
+use borrow.Author.Needs.{needs}
+use Rattle.min.proofs.write.copy_pages.Statement.{statement}
+use Rattle.min.proofs.write.copy_pages.Tie as tie
+
+abbrev Inv-loop : tie.InvT-loop
+Inv-loop held a pages₀ i₀ pages i = (i ≤ a) × ((length pages ≡ length pages₀) × (pages ≡ over (map pageOf held) pages₀ i))
+
+abbrev μ-loop : tie.MeasureT-loop
+μ-loop held a pages₀ i₀ pages i = a - i
+
+loop-holds : tie.Need-loop-holds Inv-loop μ-loop
+loop-holds c = (omega arith, (refl, over-none _ _))
+
+loop-again : tie.Need-loop-again Inv-loop μ-loop
+loop-again c = (omega arith, (simp length-set (omega arith), pages-turn (c .before .before .before .loop .i) (c .before .before .before .before .before .before .args .held .now) (c .before .before .before .before .before .before .args .pages .now) (c .before .before .before .loop .pages) (c .page-of .result) (omega arith) (omega arith) (c .before .before .before .loop .inv .1 .1) (c .page-of .ensures)))
+
+returns : tie.Need-returns Inv-loop μ-loop
+returns c = pages-done (c .before .loop .i) (c .before .before .before .before .args .a) (c .before .before .before .before .args .held .now) (c .before .before .before .before .args .pages .now) (c .before .loop .pages) (omega arith) (omega arith) (c .before .loop .inv .1 .1)
+
+pub copy-pages-spec : {M : Type 1} → statement M
+copy-pages-spec =
+    tie.close
+    (tie.spec
+    Inv-loop
+    μ-loop
+    loop-holds
+    (λ c. search needs)
+    (λ c. search needs)
+    (λ c κs. search needs)
+    (λ c. search needs)
+    (λ c. search needs)
+    (λ c. search needs)
+    (λ c. search needs)
+    loop-again
+    (λ c. search needs)
+    returns)
