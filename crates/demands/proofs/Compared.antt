@@ -1,0 +1,96 @@
+-- The comparisons of demand 3 hold, for every k from 1 to 256 and a from 1 to k.
+use Prim.Native.Nat.{ℕ, _*_, _≤_}
+use native.Mathlib.Omega.{arith}
+use mathlib.Core.Path.{_≡_, refl, ap, sym, _∙_}
+use mathlib.Core.Bool.{true}
+use mathlib.Core.List.{List, []}
+use lib.Dec.{ltb}
+use lib.ListN.{length}
+use lib.Seq.{take-append-seam}
+use borrow.Author.Tests.{ltb-false}
+use Rattle.lists.proofs.Choice.{cases}
+use Rattle.paging.specs.Refusals.{refuse}
+use Rattle.records.specs.Bytes.{traceBytes, scheduleBytes}
+use Rattle.min.specs.Answers.{traceRefusal, bytesRefusal, scheduleRefusal, minSchedule}
+use Rattle.judge.specs.Answer.{cost}
+use Rattle.judge.specs.Files.{judged}
+use Rattle.judge.proofs.ExactFiles.{sound, complete}
+use Rattle.layers.proofs.Refusing.{sizes-pass, sizes-taken}
+use Rattle.paging.specs.Policy.{bundleCount}
+use Rattle.paging.specs.Lru.{lruRule}
+use Rattle.paging.specs.Min.{bestCount}
+use Rattle.theory.proofs.Best.{min-serves, min-costs-best, serving-costs-best, layers-count-best}
+use Rattle.theory.proofs.Possible.{possible-is-what-min-can-hold}
+use Rattle.theory.proofs.Lru.{lru-within-factor}
+use Rattle.theory.specs.Factor.{ceilDiv}
+use Rattle.lru.specs.Standing.{afterCalls, acceptedPages}
+use Rattle.lru.specs.declared.Run.{Run}
+use Rattle.lru.proofs.Steps as lru
+use Rattle.layers.specs.declared.LayersRun.{LayersRun}
+use Rattle.layers.proofs.Steps.{Stands, yes-exactly}
+use Rattle.demands.specs.LayersCalls.{layersStart, layersAfterCalls, layersTrace}
+use Rattle.demands.specs.Demand3.{Compares, Demand3, lruStart, minEntries, scheduleWritten}
+use Rattle.demands.proofs.LayersLists.{list-stands}
+
+-- MIN's schedule, and the judge's answer to it
+
+written-is : (k a : ℕ) (trace out : List ℕ) → scheduleRefusal k a trace out ≡ 0 → scheduleWritten k a trace out ≡ scheduleBytes k a (minEntries k a trace)
+unfolding minSchedule
+written-is k a trace out e = rw e (take-append-seam (scheduleBytes k a (minEntries k a trace)) _)
+
+accepted-short : (k a : ℕ) → 1 ≤ a → a ≤ k → k ≤ 256 → (trace out : List ℕ) → scheduleRefusal k a trace out ≡ 0 → length trace ≤ 65536
+unfolding traceRefusal
+accepted-short k a pos le small trace out e =
+    let rest = bytesRefusal k a trace out in
+    let behind : refuse (ltb 65536 (length trace)) 3 rest ≡ 0
+    = sym (sizes-pass k a (refuse (ltb 65536 (length trace)) 3 rest) (sizes-taken k a (record { a-low = pos; a-high = le; k-high = small }))) ∙ e in
+    cases (ltb 65536 (length trace))
+    (λ t. absurd (omega (arith, rw t at behind)))
+    (λ t. ltb-false _ _ t)
+
+judge-answers : (k a : ℕ) → 1 ≤ a → a ≤ k → k ≤ 256 → (trace out : List ℕ) → scheduleRefusal k a trace out ≡ 0
+    → judged (traceBytes k a trace) (scheduleWritten k a trace out) ≡ cost (bestCount k a trace)
+judge-answers k a pos le small trace out e =
+    complete (traceBytes k a trace) (scheduleWritten k a trace out) (bestCount k a trace)
+    (record {
+      k = k;
+      a = a;
+      pages = trace;
+      entries = minEntries k a trace;
+      k-some = omega arith;
+      k-most = small;
+      a-some = pos;
+      a-most = le;
+      few = accepted-short k a pos le small trace out e;
+      trace-is = refl;
+      schedule-is = written-is k a trace out e;
+      legal = min-serves k a pos le trace;
+      costs = sym (min-costs-best k a pos le trace);
+    })
+
+pub compares : (k a : ℕ) → 1 ≤ a → a ≤ k → k ≤ 256 → Compares k a
+compares k a pos le small =
+    record {
+      min-is-legal = min-serves k a pos le;
+      min-costs-the-best-count = min-costs-best k a pos le;
+      no-legal-schedule-costs-less = serving-costs-best k a pos le;
+      layers-count-the-best = λ places calls.
+          ap (λ (run : LayersRun). run .evictions) (list-stands k a pos le small places calls .run-is)
+          ∙ layers-count-best k a pos le (layersTrace calls (layersStart k a places));
+      lru-stays-within-the-factor = λ cache calls.
+          let stands = lru.calls-stand k a calls [] (lruStart k a cache) (lru.stands-empty k a cache pos le small) in
+          let e = ap (λ (run : Run). run .evictions) (stands .record-is) in
+          omega (arith, e, lru-within-factor k a pos le (acceptedPages calls (lruStart k a cache)));
+      possible-is-what-min-can-hold = λ places calls set once answer told.
+          let x = layersAfterCalls calls (layersStart k a places) in
+          let trace = layersTrace calls (layersStart k a places) in
+          let yes = yes-exactly k a trace (x .run) (x .pages) (x .numbers) (list-stands k a pos le small places calls) set once answer told in
+          let exact = possible-is-what-min-can-hold k a pos le trace set once in
+          (λ y. exact .0 (yes .0 y), λ h. yes .1 (exact .1 h));
+      min-reports-the-best-count = λ trace out e. rw e refl;
+      min-writes-its-schedule = λ trace out e. written-is k a trace out e;
+      judge-answers-the-best-count = judge-answers k a pos le small;
+    }
+
+pub demand-3-holds : Demand3
+demand-3-holds = record { compares = compares; judge-answers-a-legal-cost = λ trace schedule bt bs bundles e. sound trace schedule bundles bt bs e }

@@ -1,0 +1,3 @@
+pub mod LayersLists
+pub mod Compared
+mod Cases

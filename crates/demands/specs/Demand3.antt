@@ -1,0 +1,69 @@
+-- Demand 3 (document 01, "What demand 3 compares"), whole: one record with a field for each of its sentences.
+use Prim.Native.Nat.{ℕ, _+_, _*_, _≤_}
+use mathlib.Core.Bool.{true}
+use mathlib.Core.Path.{_≡_}
+use mathlib.Core.Logic.{_↔_}
+use mathlib.Core.List.{List, []}
+use lib.ListN.{length, take}
+use Rattle.lists.specs.Pages.{distinct}
+use Rattle.paging.specs.Schedule.{Entry, serves, entriesCost}
+use Rattle.paging.specs.Policy.{bundles}
+use Rattle.paging.specs.Min.{minRule, bestCount}
+use Rattle.wire.specs.Numbers.{Bytes}
+use Rattle.records.specs.Bytes.{traceBytes, scheduleBytes}
+use Rattle.min.specs.Answers.{scheduleRefusal, scheduledOf, bytesOf}
+use Rattle.judge.specs.Answer.{cost}
+use Rattle.judge.specs.Files.{judged}
+use Rattle.judge.specs.LegalFiles.{LegalFiles}
+use Rattle.theory.specs.Factor.{ceilDiv}
+use Rattle.theory.specs.Possible.{CanHold}
+use Rattle.lru.specs.Serving.{emptyRun}
+use Rattle.lru.specs.Standing.{Call, State, afterCalls, acceptedPages}
+use Rattle.layers.specs.Questions.{PossibleTold}
+use Rattle.layers.specs.declared.PossibleAnswer.{PossibleAnswer}
+use Rattle.layers.specs.declared.PossibleAnswer.the-variants.{Yes}
+use Rattle.demands.specs.LayersCalls.{LayersCall, LayersState, layersStart, layersAfterCalls, layersTrace}
+
+-- MIN's bundles of a trace as EVs
+abbrev pub minEntries : (k a : ℕ) → (trace : List ℕ) → List Entry
+minEntries k a trace = bundles (minRule a) k 0 trace [] []
+
+-- the start of an LRU list: the empty record, count 0 and any cache list
+abbrev pub lruStart : (k a : ℕ) → (cache : List ℕ) → State
+lruStart k a cache = record { run = emptyRun k a; count = 0; cache = cache }
+
+-- just the schedule's bytes, as MIN leaves them in the lent bytes
+abbrev pub scheduleWritten : (k a : ℕ) → (trace out : List ℕ) → List ℕ
+scheduleWritten k a trace out = take (scheduledOf k a trace out .length) (bytesOf k a trace out)
+
+pub record Compares (k a : ℕ) : Type 0 where
+  -- "MIN's bundles, as EVs, are a legal schedule of a trace; every other legal schedule of it costs at least its best count"
+  pub min-is-legal : (trace : List ℕ) → serves k a trace (minEntries k a trace) ≡ true
+  pub min-costs-the-best-count : (trace : List ℕ) → entriesCost (minEntries k a trace) ≡ bestCount k a trace
+  pub no-legal-schedule-costs-less : (trace : List ℕ) (schedule : List Entry) → serves k a trace schedule ≡ true → bestCount k a trace ≤ entriesCost schedule
+  -- "after a layers list its record's evictions equal the best count of its trace"
+  pub layers-count-the-best : (places : ℕ) (calls : List LayersCall)
+      → layersAfterCalls calls (layersStart k a places) .run .evictions ≡ bestCount k a (layersTrace calls (layersStart k a places))
+  -- "after an LRU list its record's evictions are at most k/a, rounded up, times the best count of its trace"
+  pub lru-stays-within-the-factor : (cache : List ℕ) (calls : List Call)
+      → afterCalls calls (lruStart k a cache) .run .evictions ≤ ceilDiv k a * bestCount k a (acceptedPages calls (lruStart k a cache))
+  -- "after a layers list a set, its pages each named once, in any order, is answered possible exactly if pages can be put behind the
+  -- trace so that MIN's rule, on the whole, holds just that set after the trace's last request"
+  pub possible-is-what-min-can-hold : (places : ℕ) (calls : List LayersCall) (set : List ℕ) → distinct set ≡ true
+      → (answer : PossibleAnswer)
+      → (let x = layersAfterCalls calls (layersStart k a places) in PossibleTold (x .run) (x .pages) (x .numbers) set answer)
+      → (answer ≡ Yes) ↔ CanHold (minRule a) k (layersTrace calls (layersStart k a places)) set
+  -- "for each trace that MIN accepts, the bundles it reports and the EVs it writes are each as many as its best count, and that number is
+  -- the judge's answer to a file of the trace and just the schedule's bytes"
+  pub min-reports-the-best-count : (trace out : List ℕ) → scheduleRefusal k a trace out ≡ 0 → scheduledOf k a trace out .bundles ≡ bestCount k a trace
+  pub min-writes-its-schedule : (trace out : List ℕ) → scheduleRefusal k a trace out ≡ 0
+      → scheduleWritten k a trace out ≡ scheduleBytes k a (minEntries k a trace)
+  pub judge-answers-the-best-count : (trace out : List ℕ) → scheduleRefusal k a trace out ≡ 0
+      → judged (traceBytes k a trace) (scheduleWritten k a trace out) ≡ cost (bestCount k a trace)
+
+-- the whole demand: the comparisons for every k from 1 to 256 and a from 1 to k, and the judge on any two files
+pub record Demand3 : Type 0 where
+  pub compares : (k a : ℕ) → 1 ≤ a → a ≤ k → k ≤ 256 → Compares k a
+  -- "two files for which the judge answers a cost are a trace and a legal schedule of it with that cost"
+  pub judge-answers-a-legal-cost : (trace schedule : List ℕ) → Bytes trace → Bytes schedule → (bundles : ℕ)
+      → judged trace schedule ≡ cost bundles → LegalFiles trace schedule bundles

@@ -1,0 +1,2 @@
+pub mod LayersCalls
+pub mod Demand3

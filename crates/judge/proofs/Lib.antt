@@ -1,0 +1,12 @@
+pub mod Order
+pub mod Exact
+pub mod BufferLaws
+pub mod FetchLaws
+pub mod ClosingLaws
+pub mod EntryLaws
+pub mod ReadLaws
+pub mod RunLaws
+pub mod FileLaws
+pub mod SignedLaws
+pub mod ExactFiles
+pub mod Examples

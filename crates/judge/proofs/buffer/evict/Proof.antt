@@ -1,0 +1,51 @@
+use Prim.Native.Nat.{_+_, _*_, _-_, _≤_}
+use mathlib.Core.Path.{_≡_, refl, sym, _∙_}
+use lib.ListN.{length, take, drop}
+use native.Mathlib.Omega.{arith}
+use Rattle.lists.specs.Pages.{eraseAll}
+use Rattle.wire.specs.Numbers.{nums32}
+use Rattle.paging.specs.Schedule.{heldInTurn}
+use Rattle.judge.proofs.BufferLaws.{next-held, next-erased, next-missing, evicted, missing}
+use borrow.Author.Needs.{needs}
+use Rattle.judge.proofs.buffer.evict.Statement.{statement}
+use Rattle.judge.proofs.buffer.evict.Tie as tie
+
+abbrev Inv-loop : tie.InvT-loop
+Inv-loop held₀ n schedule from count at₀ left₀ m₀ held at left m = ((at + 4 * left ≡ from + 4 * count) × (m + count ≡ n + left) × (left ≤ count) × (length held ≡ length held₀)) × ((heldInTurn (nums32 count (drop from schedule)) (take n held₀) ≡ heldInTurn (nums32 left (drop at schedule)) (take m held)) × (eraseAll (nums32 count (drop from schedule)) (take n held₀) ≡ eraseAll (nums32 left (drop at schedule)) (take m held)))
+
+abbrev μ-loop : tie.MeasureT-loop
+μ-loop held₀ n schedule from count at₀ left₀ m₀ held at left m = left
+
+loop-holds : tie.Need-loop-holds Inv-loop μ-loop
+loop-holds c = ((refl, refl, omega arith, refl), (refl, refl))
+
+sub-m : tie.Need-sub-m Inv-loop μ-loop
+sub-m c = let d = c .before .before .before .take-out .ensures .1 (c .if1 .taken) .0 in omega arith
+
+loop-again : tie.Need-loop-again Inv-loop μ-loop
+loop-again c = let d = c .before .before .before .take-out .ensures .1 (c .if1 .taken) in let l = d .0 in let kept = c .before .before .before .take-out .kept .0 in ((omega arith, omega arith, omega arith, omega arith), (c .before .before .before .before .before .before .before .loop .inv .1 .0 ∙ next-held (c .before .before .before .before .before .before .before .before .before .before .args .schedule .now) (c .before .before .before .before .before .before .before .loop .at) (c .before .before .before .before .before .before .before .loop .left) (c .before .before .before .before .before .read32 .result) (c .before .before .before .before .before .before .before .loop .m) (c .before .before .before .before .before .before .before .loop .held) (omega arith) (c .before .before .before .before .before .read32 .ensures) (c .before .before .before .take-out .last .0) (sym (c .before .before .before .take-out .ensures .0) ∙ c .if1 .taken) (d .1), c .before .before .before .before .before .before .before .loop .inv .1 .1 ∙ next-erased (c .before .before .before .before .before .before .before .before .before .before .args .schedule .now) (c .before .before .before .before .before .before .before .loop .at) (c .before .before .before .before .before .before .before .loop .left) (c .before .before .before .before .before .read32 .result) (c .before .before .before .before .before .before .before .loop .m) (c .before .before .before .before .before .before .before .loop .held) (omega arith) (c .before .before .before .before .before .read32 .ensures) (c .before .before .before .take-out .last .0) (d .1)))
+
+returns : tie.Need-returns Inv-loop μ-loop
+returns c = missing _ (c .before .before .before .before .before .before .before .loop .inv .1 .0 ∙ next-missing (c .before .before .before .before .before .before .before .before .before .before .args .schedule .now) (c .before .before .before .before .before .before .before .loop .at) (c .before .before .before .before .before .before .before .loop .left) (c .before .before .before .before .before .read32 .result) (c .before .before .before .before .before .before .before .loop .m) (c .before .before .before .before .before .before .before .loop .held) (omega arith) (c .before .before .before .before .before .read32 .ensures) (sym (c .before .before .before .take-out .ensures .0) ∙ c .if1 .left))
+
+returns-2 : tie.Need-returns-2 Inv-loop μ-loop
+returns-2 c = evicted (c .before .before .before .before .args .schedule .now) (c .before .loop .at) (c .before .loop .left) (c .before .loop .m) (c .before .before .before .before .args .n) (c .before .before .before .before .args .count) (c .before .loop .held) _ _ (omega arith) (omega arith) (c .before .loop .inv .1 .0) (c .before .loop .inv .1 .1)
+
+pub evict-spec : {M : Type 1} → statement M
+evict-spec =
+    tie.close
+    (tie.spec
+    Inv-loop
+    μ-loop
+    loop-holds
+    (λ c κs. search needs)
+    (λ c. search needs)
+    (λ c. search needs)
+    (λ c κs. search needs)
+    sub-m
+    (λ c. search needs)
+    loop-again
+    (λ c. search needs)
+    returns
+    (λ c. search needs)
+    returns-2)

@@ -1,0 +1,43 @@
+use Prim.Native.Nat.{_+_, _*_}
+use mathlib.Core.Path.{_≡_, refl, sym, _∙_}
+use native.Mathlib.Omega.{arith}
+use Rattle.lists.specs.Pages.{mem}
+use Rattle.judge.specs.Fetches.{fetchedPages}
+use Rattle.judge.proofs.FetchLaws.{fetched-here, fetched-next, fetched-none}
+use borrow.Author.Needs.{needs}
+use Rattle.judge.proofs.fetches.fetched.Statement.{statement}
+use Rattle.judge.proofs.fetches.fetched.Tie as tie
+
+abbrev Inv-loop : tie.InvT-loop
+Inv-loop schedule from count page at₀ left₀ at left = (at + 10 * left ≡ from + 10 * count) × (mem page (fetchedPages schedule from count) ≡ mem page (fetchedPages schedule at left))
+
+abbrev μ-loop : tie.MeasureT-loop
+μ-loop schedule from count page at₀ left₀ at left = left
+
+loop-holds : tie.Need-loop-holds Inv-loop μ-loop
+loop-holds c = (refl, refl)
+
+returns : tie.Need-returns Inv-loop μ-loop
+returns c = sym (c .before .before .before .loop .inv .1 ∙ fetched-here (c .before .before .before .before .before .args .schedule .now) (c .before .before .before .loop .at) (c .before .before .before .loop .left) (c .before .before .before .before .before .args .page) (c .before .read32 .result) (omega arith) (c .before .read32 .ensures) (c .if1 .taken))
+
+loop-again : tie.Need-loop-again Inv-loop μ-loop
+loop-again c = (omega arith, c .before .before .before .loop .inv .1 ∙ fetched-next (c .before .before .before .before .before .args .schedule .now) (c .before .before .before .loop .at) (c .before .before .before .loop .left) (c .before .before .before .before .before .args .page) (c .before .read32 .result) (omega arith) (c .before .read32 .ensures) (c .if1 .left))
+
+returns-2 : tie.Need-returns-2 Inv-loop μ-loop
+returns-2 c = sym (c .before .loop .inv .1 ∙ fetched-none (c .before .before .before .args .schedule .now) (c .before .loop .at) (c .before .loop .left) (c .before .before .before .args .page) (omega arith))
+
+pub fetched-spec : {M : Type 1} → statement M
+fetched-spec =
+    tie.close
+    (tie.spec
+    Inv-loop
+    μ-loop
+    loop-holds
+    (λ c. search needs)
+    (λ c κs. search needs)
+    (λ c. search needs)
+    (λ c. search needs)
+    returns
+    (λ c. search needs)
+    loop-again
+    returns-2)

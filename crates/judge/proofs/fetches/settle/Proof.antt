@@ -1,0 +1,44 @@
+use Prim.Native.Nat.{_+_, _*_}
+use mathlib.Core.Path.{_≡_, refl, sym, _∙_}
+use mathlib.Core.List.{_++_}
+use lib.ListN.{length, take, length-set}
+use native.Mathlib.Omega.{arith}
+use Rattle.judge.specs.Fetches.{fetchedPages}
+use Rattle.judge.proofs.FetchLaws.{settled-next, settled-all}
+use borrow.Author.Needs.{needs}
+use Rattle.judge.proofs.fetches.settle.Statement.{statement}
+use Rattle.judge.proofs.fetches.settle.Tie as tie
+
+abbrev Inv-loop : tie.InvT-loop
+Inv-loop schedule from count held₀ n at₀ left₀ m₀ held at left m = (at + 10 * left ≡ from + 10 * count) × (m + left ≡ n + count) × (length held ≡ length held₀) × (take m held ++ fetchedPages schedule at left ≡ take n held₀ ++ fetchedPages schedule from count)
+
+abbrev μ-loop : tie.MeasureT-loop
+μ-loop schedule from count held₀ n at₀ left₀ m₀ held at left m = left
+
+loop-holds : tie.Need-loop-holds Inv-loop μ-loop
+loop-holds c = (refl, refl, refl, refl)
+
+loop-again : tie.Need-loop-again Inv-loop μ-loop
+loop-again c = (omega arith, omega arith, simp length-set (omega arith), settled-next (c .before .before .before .before .before .args .schedule .now) (c .before .before .loop .at) (c .before .before .loop .left) 0 (c .read32 .result) (omega arith) (c .read32 .ensures) (c .before .before .loop .held) (c .before .before .loop .m) (omega arith) ∙ c .before .before .loop .inv .3)
+
+returns : tie.Need-returns Inv-loop μ-loop
+returns c = settled-all (c .before .before .before .before .args .schedule .now) (c .before .loop .held) _ (c .before .loop .at) (c .before .loop .left) (c .before .loop .m) (c .before .before .before .before .args .count) (c .before .before .before .before .args .n) (omega arith) (omega arith) (c .before .loop .inv .3)
+
+pub settle-spec : {M : Type 1} → statement M
+settle-spec =
+    tie.close
+    (tie.spec
+    Inv-loop
+    μ-loop
+    loop-holds
+    (λ c. search needs)
+    (λ c κs. search needs)
+    (λ c. search needs)
+    (λ c. search needs)
+    (λ c. search needs)
+    (λ c. search needs)
+    (λ c. search needs)
+    (λ c. search needs)
+    loop-again
+    (λ c. search needs)
+    returns)
