@@ -1,0 +1,78 @@
+-- For sizes that are right and a trace that is short enough no call refuses, and the answers are the figures.
+use Prim.Native.Nat.{ℕ, _≤_}
+use native.Mathlib.Omega.{arith}
+use mathlib.Core.Path.{_≡_, refl, sym, ap, _∙_}
+use mathlib.Core.Bool.{Bool, true, false}
+use mathlib.Core.List.{List}
+use lib.Dec.{eqb, ltb}
+use lib.ListN.{length, take, replicate}
+use borrow.Author.Tests.{le-ltb, eq-eqb, ne-eqb}
+use Rattle.lists.specs.Choice.{pick}
+use Rattle.paging.specs.Refusals.{refuse, sizesRefusal}
+use Rattle.paging.specs.Policy.{bundleCount, loadCount}
+use Rattle.paging.specs.Lru.{lruRule}
+use Rattle.paging.specs.Min.{bestCount, minLoads}
+use Rattle.paging.specs.Layers.{noLayers, layersAfter, joinCount}
+use Rattle.min.specs.Answers as min
+use Rattle.min.specs.declared.Counts as min-counts
+use Rattle.lru.specs.Refusing as lru
+use Rattle.lru.specs.declared.Totals as lru-totals
+use Rattle.layers.specs.Traces.{tabledAfter, nothingYet, traceTotals}
+use Rattle.layers.specs.declared.LayersTotals.{LayersTotals}
+use Rattle.layers.proofs.Refusing.{sizes-pass, sizes-taken}
+use Rattle.layers.proofs.Steps.{trace-accepted, trace-counts, tabled-top}
+use Rattle.report.specs.Traces.{TraceFile, whole, damaged, traceFile}
+use Rattle.report.specs.Reading.{fileOf}
+use Rattle.report.specs.Figures.{counts, layersCounts, figures, revealedAfter, refusedReport, reported, reportOf}
+use Rattle.report.specs.declared.reading.TraceRead.{TraceRead}
+use Rattle.report.specs.declared.Report.{Report}
+
+module _ (k a : ℕ) (trace : List ℕ) (pos : 1 ≤ a) (le : a ≤ k) (small : k ≤ 256) (short : length trace ≤ 4096) where
+  sizes-are : (rest : ℕ) → sizesRefusal k a rest ≡ rest
+  sizes-are rest = sizes-pass k a rest (sizes-taken k a (record { a-low = pos; a-high = le; k-high = small }))
+
+  in-limit : ltb 65536 (length trace) ≡ false
+  in-limit = le-ltb 65536 (length trace) (omega arith)
+
+  min-takes : min.traceRefusal k a trace 0 ≡ 0
+  unfolding min.traceRefusal
+  min-takes = sizes-are _ ∙ rw in-limit refl
+
+  lru-takes : lru.traceRefusal k a trace ≡ 0
+  unfolding lru.traceRefusal
+  lru-takes = sizes-are _ ∙ rw in-limit refl
+
+  abbrev blank : List ℕ
+  blank = replicate 4096 0
+
+  layers-take : traceTotals k a trace blank blank
+      ≡ record { refusal = 0; evictions = joinCount k a trace; s = layersAfter k a trace noLayers .top; revealed = revealedAfter k a trace }
+  layers-take =
+      trace-counts k a trace blank blank (trace-accepted k a pos le small trace (omega arith) 4096 short)
+      ∙ rw (tabled-top k a trace) refl
+
+  pub figures-told : (m : min-counts.Counts) (l : lru-totals.Totals) (y : LayersTotals)
+      → m ≡ min.countsOf k a trace → l ≡ lru.totalsOf k a trace → y ≡ traceTotals k a trace blank blank
+      → record {
+        refusal = 0;
+        k = k;
+        a = a;
+        requests = length trace;
+        min = counts (m .bundles) (m .loads);
+        lru = counts (l .bundles) (l .loads);
+        layers = layersCounts (y .evictions) (y .s) (y .revealed);
+      } ≡ figures k a trace
+  unfolding figures
+  figures-told m l y em el ey =
+      rw (em, el, ey ∙ layers-take, min-takes, lru-takes) refl
+
+-- The whole input
+
+module _ (file : List ℕ) (r : TraceRead) (pages : List ℕ) (told : fileOf r pages ≡ traceFile 4096 file) where
+  pub input-refused : (x : Report) → x ≡ refusedReport (r .refusal) → (r .refusal ≡ 0 → ⊥) → x ≡ reportOf file
+  unfolding reportOf
+  input-refused x e n = e ∙ ap reported (sym (ap (λ (b : Bool). pick b (whole (r .k) (r .a) (take (r .requests) pages)) (damaged (r .refusal))) (ne-eqb (r .refusal) 0 n)) ∙ told)
+
+  pub input-figures : (x : Report) → x ≡ figures (r .k) (r .a) (take (r .requests) pages) → r .refusal ≡ 0 → x ≡ reportOf file
+  unfolding reportOf
+  input-figures x e z = e ∙ ap reported (sym (ap (λ (b : Bool). pick b (whole (r .k) (r .a) (take (r .requests) pages)) (damaged (r .refusal))) (eq-eqb (r .refusal) 0 z)) ∙ told)

@@ -1,0 +1,58 @@
+-- What the bench says of an input (document 01, "The eight-request shift"): the numbers of its four lines, or a refusal's number with
+-- zeros beside it.
+use Prim.Native.Nat.{ℕ}
+use mathlib.Core.List.{List}
+use lib.ListN.{length}
+use Rattle.paging.specs.Policy.{bundleCount, loadCount}
+use Rattle.paging.specs.Lru.{lruRule}
+use Rattle.paging.specs.Min.{bestCount, minLoads}
+use Rattle.paging.specs.Layers.{joinCount, layersAfter, noLayers}
+use Rattle.paging.specs.Table.{revealed}
+use Rattle.layers.specs.Traces.{tabledAfter, nothingYet}
+use Rattle.report.specs.Traces.{TraceFile, whole, damaged, traceFile}
+use Rattle.report.specs.declared.Counts.{Counts}
+use Rattle.report.specs.declared.LayersCounts.{LayersCounts}
+use Rattle.report.specs.declared.Report.{Report}
+
+abbrev pub counts : (bundles loads : ℕ) → Counts
+counts bundles loads = record { bundles = bundles; loads = loads }
+
+abbrev pub layersCounts : (bundles s revealed : ℕ) → LayersCounts
+layersCounts bundles s shown = record { bundles = bundles; s = s; revealed = shown }
+
+abbrev pub refusedReport : (number : ℕ) → Report
+refusedReport number =
+    record {
+      refusal = number;
+      k = 0;
+      a = 0;
+      requests = 0;
+      min = counts 0 0;
+      lru = counts 0 0;
+      layers = layersCounts 0 0 0;
+    }
+
+-- revealed pages after a trace
+abbrev pub revealedAfter : (k a : ℕ) → (trace : List ℕ) → ℕ
+revealedAfter k a trace = revealed (tabledAfter k a trace nothingYet .s) (tabledAfter k a trace nothingYet .rows)
+
+-- k, a, requests; MIN's and LRU's bundles and loads; the layers' bundles, s, and revealed pages
+unfoldable pub figures : (k a : ℕ) → (trace : List ℕ) → Report
+figures k a trace =
+    record {
+      refusal = 0;
+      k = k;
+      a = a;
+      requests = length trace;
+      min = counts (bestCount k a trace) (minLoads k a trace);
+      lru = counts (bundleCount (lruRule a) k trace) (loadCount (lruRule a) k trace);
+      layers = layersCounts (joinCount k a trace) (layersAfter k a trace noLayers .top) (revealedAfter k a trace);
+    }
+
+abbrev pub reported : TraceFile → Report
+reported (whole k a pages) = figures k a pages
+reported (damaged number) = refusedReport number
+
+-- the bench takes 4,096 requests
+unfoldable pub reportOf : List ℕ → Report
+reportOf input = reported (traceFile 4096 input)

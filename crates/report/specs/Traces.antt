@@ -1,0 +1,34 @@
+-- A trace file read whole (document 01, "Files" and "Sizes"): its KA and its requests, or the number of its first refusal. A record that
+-- passes the limit is judged for 4 and 5 first, and is 3 at once if it is right, whatever follows it.
+use Prim.Native.Nat.{ℕ}
+use mathlib.Core.List.{List}
+use lib.Dec.{eqb, ltb}
+use lib.ListN.{length}
+use Rattle.lists.specs.Choice.{pick}
+use Rattle.paging.specs.Refusals.{refuse}
+use Rattle.records.specs.Reading.{Answer, refused, ended, sizes, request, bundle, fetch, readTrace}
+use Rattle.records.specs.Files.{File, requestsFrom}
+
+pub data TraceFile : Type 0 where
+  whole : (k a : ℕ) (pages : List ℕ) → TraceFile
+  damaged : (number : ℕ) → TraceFile
+
+-- the number that the requests behind the KA are refused with, 0 if they are not
+abbrev pub requestsRefusal : (limit : ℕ) → File ℕ → ℕ
+requestsRefusal limit file = refuse (ltb limit (length (file .held))) 3 (file .damage)
+
+abbrev pub withRequests : (limit k a : ℕ) → File ℕ → TraceFile
+withRequests limit k a file =
+    pick (eqb (requestsRefusal limit file) 0) (whole k a (file .held)) (damaged (requestsRefusal limit file))
+
+-- what stands at offset 0 is a KA or a refusal
+abbrev pub fromStart : (limit : ℕ) → List ℕ → Answer → TraceFile
+fromStart limit s (refused number) = damaged number
+fromStart limit s (sizes k a next) = withRequests limit k a (requestsFrom s next)
+fromStart limit s ended = damaged 5
+fromStart limit s (request page next) = damaged 4
+fromStart limit s (bundle t n from next) = damaged 4
+fromStart limit s (fetch t page next) = damaged 4
+
+unfoldable pub traceFile : (limit : ℕ) → List ℕ → TraceFile
+traceFile limit s = fromStart limit s (readTrace s 0)

@@ -1,0 +1,42 @@
+// The figures of a trace that was read: MIN's, LRU's and the layers'.
+ghost use mathlib.Core.Path.{_≡_};
+ghost use Prim.Native.Nat.{_≤_};
+ghost use lib.ListN.{length};
+ghost use Rattle.report.specs.Figures.{figures};
+use crate::Counts;
+use crate::LayersCounts;
+use crate::Report;
+
+// The sizes are right and the trace is short enough: nothing is refused, and the table has a place for each request.
+pub(crate) fn of(k: u32, a: u32, trace: &[u32]) -> Report
+    requires { ⌜ (1 ≤ a) × (a ≤ k) × (k ≤ 256) × (length (now trace) ≤ 4096) ⌝ }
+    ensures { λ r. ⌜ r ≡ figures k a (now (trace .entry)) ⌝ }
+{
+    let least = min::count(k, a, trace);
+    let recent = lru::over_trace(k, a, trace);
+    let mut pages = [0u32; 4096];
+    let mut numbers = [0u32; 4096];
+    let layered = layers::over_trace(k, a, trace, &mut pages, &mut numbers);
+    let min = Counts {
+        bundles: least.bundles,
+        loads: least.loads,
+    };
+    let lru = Counts {
+        bundles: recent.bundles,
+        loads: recent.loads,
+    };
+    let layers = LayersCounts {
+        bundles: layered.evictions,
+        s: layered.s,
+        revealed: layered.revealed,
+    };
+    Report {
+        refusal: 0,
+        k,
+        a,
+        requests: trace.len() as u32,
+        min,
+        lru,
+        layers,
+    }
+}

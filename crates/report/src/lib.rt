@@ -1,0 +1,79 @@
+// The bench's figures for an input (document 01, "The eight-request shift"): one function on the input's bytes.
+ghost use mathlib.Core.Path.{_≡_};
+ghost use Rattle.report.specs.Figures.{reportOf, refusedReport};
+
+mod figures;
+mod reading;
+
+// Bundles and loads of a policy.
+pub struct Counts {
+    pub bundles: u32,
+    pub loads: u32,
+}
+
+// Bundles that the layers count, s, and revealed pages.
+pub struct LayersCounts {
+    pub bundles: u32,
+    pub s: u32,
+    pub revealed: u32,
+}
+
+// The four lines' numbers; or the refusal's number, and zeros.
+pub struct Report {
+    pub refusal: u32,
+    pub k: u32,
+    pub a: u32,
+    pub requests: u32,
+    pub min: Counts,
+    pub lru: Counts,
+    pub layers: LayersCounts,
+}
+
+impl Report {
+    // The most requests that the bench takes.
+    pub const LONGEST: usize = 4096;
+
+    // The bytes in which a request too many is seen whole: a KA and one RQ more than the bench takes.
+    pub const INPUT: usize = 24588;
+
+    // A refusal.
+    pub fn refused(number: u32) -> Report
+        ensures { λ r. ⌜ r ≡ refusedReport number ⌝ }
+    {
+        let min = Counts {
+            bundles: 0,
+            loads: 0,
+        };
+        let lru = Counts {
+            bundles: 0,
+            loads: 0,
+        };
+        let layers = LayersCounts {
+            bundles: 0,
+            s: 0,
+            revealed: 0,
+        };
+        Report {
+            refusal: number,
+            k: 0,
+            a: 0,
+            requests: 0,
+            min,
+            lru,
+            layers,
+        }
+    }
+}
+
+// What the bench says of a trace file.
+pub fn of_input(input: &[u8]) -> Report
+    ensures { λ r. ⌜ r ≡ reportOf (now (input .entry)) ⌝ }
+{
+    let mut pages = [0u32; 4096];
+    let read = reading::trace(input, &mut pages);
+    if read.refusal != 0 {
+        return Report::refused(read.refusal);
+    }
+    let n = read.requests;
+    figures::of(read.k, read.a, &pages[..n])
+}

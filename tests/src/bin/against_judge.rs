@@ -1,0 +1,168 @@
+//! Calls the judge of the static library on named pairs of files with answers by hand, on every small
+//! pair, on tens of thousands of drawn and damaged pairs and on full-size ones, and compares each
+//! answer with the second implementation's.
+
+use bench_tests::damage::damage;
+use bench_tests::exported::judge::judge;
+use bench_tests::judge_cases::{cases, ev, ka, pf, trace_first};
+use bench_tests::model::files::{schedule_file, trace_file};
+use bench_tests::model::{self, min, signed, TRACE_MAX};
+use bench_tests::report::{all_reached, differs, hex, tally_text};
+use bench_tests::rng::Rng;
+use bench_tests::schedules::{disturb, legal};
+use bench_tests::traces::{any, any_sizes, of_kind, scattered, sizes, KINDS};
+
+#[derive(Default)]
+struct Judge {
+    pairs: usize,
+    /// How often each refusal was given; place 0 counts the costs.
+    tally: [usize; 21],
+}
+
+impl Judge {
+    fn check(&mut self, what: &str, trace: &[u8], schedule: &[u8]) {
+        let expected = signed(model::judge::judge(trace, schedule));
+        self.expect(what, trace, schedule, expected);
+    }
+
+    /// Compares with a given answer.
+    fn expect(&mut self, what: &str, trace: &[u8], schedule: &[u8], expected: i64) {
+        let got = judge(trace, schedule);
+        if got != expected {
+            let input = [("kind", what.to_string()), ("trace", hex(trace)), ("schedule", hex(schedule))];
+            differs("judge", &input, &expected, &got);
+        }
+        self.pairs += 1;
+        self.tally[usize::try_from(-expected).unwrap_or(0)] += 1;
+    }
+}
+
+fn named(judge: &mut Judge) {
+    for (name, (k, a), pages, parts, answer) in cases() {
+        let (trace, schedule) = (trace_file(k, a, pages), parts.concat());
+        judge.expect(name, &trace, &schedule, answer);
+        judge.check(name, &trace, &schedule);
+    }
+    for (name, trace, schedule, answer) in trace_first() {
+        judge.expect(name, &trace, &schedule, answer);
+        judge.check(name, &trace, &schedule);
+    }
+}
+
+/// Every EV and PF for up to two requests and pages 1 to 3.
+fn small_entries() -> Vec<Vec<u8>> {
+    let mut out = Vec::new();
+    for t in 0..=2 {
+        for x in 1..=3 {
+            out.extend([pf(t, x), ev(t, &[x])]);
+            out.extend((1..=3).map(|y| ev(t, &[x, y])));
+        }
+    }
+    out
+}
+
+/// Every schedule of up to three small entries, for a few traces.
+fn every_small_pair(judge: &mut Judge) {
+    let entries = small_entries();
+    let traces: [&[u32]; 4] = [&[], &[1], &[1, 2], &[1, 2, 1]];
+    for (k, a) in [(1, 1), (2, 1), (2, 2), (3, 2)] {
+        for pages in traces {
+            let trace = trace_file(k, a, pages);
+            for first in &entries {
+                for second in &entries {
+                    let two = [ka(k, a), first.clone(), second.clone()].concat();
+                    judge.check("small", &trace, &two);
+                    for third in &entries {
+                        judge.check("small", &trace, &[&two[..], third].concat());
+                    }
+                }
+            }
+        }
+    }
+}
+
+fn drawn(judge: &mut Judge, rng: &mut Rng) {
+    for round in 0..40_000 {
+        let (k, a) = sizes(rng);
+        let n = if round % 50 == 0 { rng.between(50, 1_000) } else { rng.between(0, 24) };
+        let pages = any(k, a, n, rng);
+        let mut entries = legal(k, a, &pages, rng);
+        let trace = trace_file(k, a, &pages);
+        judge.check("legal", &trace, &schedule_file(k, a, &entries));
+        for _ in 0..rng.between(1, 3) {
+            disturb(&mut entries, &pages, rng);
+            judge.check("disturbed", &trace, &schedule_file(k, a, &entries));
+        }
+        let schedule = schedule_file(k, a, &entries);
+        judge.check("damaged schedule", &trace, &damage(&schedule, rng));
+        judge.check("damaged trace", &damage(&trace, rng), &schedule);
+    }
+    for _ in 0..20_000 {
+        let ((k, a), (other_k, other_a)) = (any_sizes(rng), any_sizes(rng));
+        let (trace, schedule) = (trace_file(k, a, &[1, 2, 3]), schedule_file(other_k, other_a, &[]));
+        judge.check("any sizes", &trace, &schedule);
+    }
+}
+
+/// Each cut of one pair.
+fn every_cut(judge: &mut Judge, rng: &mut Rng) {
+    let pages = any(3, 2, 30, rng);
+    let (trace, schedule) = (trace_file(3, 2, &pages), schedule_file(3, 2, &legal(3, 2, &pages, rng)));
+    for cut in 0..trace.len() {
+        judge.check("trace cut", &trace[..cut], &schedule);
+    }
+    for cut in 0..schedule.len() {
+        judge.check("schedule cut", &trace, &schedule[..cut]);
+    }
+}
+
+fn full_size(judge: &mut Judge, rng: &mut Rng) {
+    for kind in KINDS {
+        for (k, a) in [(256, 1), (256, 100), (256, 256)] {
+            let pages = of_kind(kind, k, a, TRACE_MAX, rng, scattered);
+            let trace = trace_file(k, a, &pages);
+            let best = min::run(k, a, &pages).expect("k and a are sound").bundles;
+            judge.expect("full size", &trace, &min::schedule(k, a, &best), best.len() as i64);
+            let mut entries = legal(k, a, &pages, rng);
+            judge.check("full size, legal", &trace, &schedule_file(k, a, &entries));
+            disturb(&mut entries, &pages, rng);
+            judge.check("full size, disturbed", &trace, &schedule_file(k, a, &entries));
+        }
+    }
+    let pages = vec![7; TRACE_MAX];
+    let most = trace_file(2, 1, &pages);
+    let last = TRACE_MAX as u32;
+    judge.expect("65536 requests", &most, &ka(2, 1), 0);
+    judge.expect("the last request", &most, &[ka(2, 1), ev(last - 1, &[7])].concat(), 1);
+    judge.expect("behind the last", &most, &[ka(2, 1), ev(last, &[7])].concat(), -6);
+    for (tail, answer) in [(&b"RQ\0\0\0\0"[..], -3), (b"RQ\0\0\0\0X", -3), (b"RQ\0\0\0", -5), (b"RR\0", -4)] {
+        judge.expect("65537 requests", &[&most[..], tail].concat(), &[], answer);
+    }
+}
+
+/// Far more PFs at one request than there are places.
+fn many_fetches(judge: &mut Judge) {
+    let trace = trace_file(256, 1, &[1, 2]);
+    let many: Vec<u8> = (0..5_000).flat_map(|page| pf(0, 10 + page)).collect();
+    let schedule = [ka(256, 1), many].concat();
+    let ends = [(pf(0, 5_009), -6), (pf(0, 10), -6), (pf(0, 5_010), -7), (pf(1, 10), -7)];
+    judge.expect("many PFs", &trace, &schedule, -7);
+    for (end, answer) in
+        ends.into_iter().chain([(ev(0, &[10]), -6), (b"P".to_vec(), -5), (b"QQ".to_vec(), -4)])
+    {
+        judge.expect("many PFs and an end", &trace, &[&schedule[..], &end].concat(), answer);
+    }
+}
+
+fn main() {
+    let mut judge = Judge::default();
+    let mut rng = Rng::new(2);
+    named(&mut judge);
+    every_small_pair(&mut judge);
+    every_cut(&mut judge, &mut rng);
+    drawn(&mut judge, &mut rng);
+    full_size(&mut judge, &mut rng);
+    many_fetches(&mut judge);
+    all_reached("judge", &[0, 1, 2, 3, 4, 5, 6, 7], &judge.tally);
+    println!("judge: {} pairs of files agree ({})", judge.pairs, tally_text(&"refusals", &judge.tally[..]));
+}

@@ -1,0 +1,230 @@
+//! On small traces every legal schedule is tried, pages fetched ahead included. Nothing of the proved
+//! crates is run: this is why the second implementation may be believed.
+//!
+//! - MIN's count is the least cost, LRU's is within k/a rounded up of it, the layers' count equals it.
+//! - A set is answered possible exactly if MIN can hold it, over every continuation.
+//! - The judge accepts exactly the schedules that the search walks through.
+
+use bench_tests::model::files::{schedule_file, trace_file, Entry};
+use bench_tests::model::layers::{self, Possible};
+use bench_tests::model::{judge, lru, min};
+use bench_tests::report::differs;
+use std::collections::{BTreeSet, HashSet};
+
+/// Pages are 0 to 3; page 4 is never requested, but may be fetched ahead. A buffer is a set of bits.
+const PAGES: u32 = 4;
+const BUFFERS: usize = 32;
+const NEVER: u32 = u32::MAX;
+
+/// The least cost at which each buffer can be held.
+type Costs = [u32; BUFFERS];
+
+/// One EV after another, until no buffer becomes cheaper.
+fn evictions(costs: &mut Costs, a: u32) {
+    // An EV only takes pages out, so falling order meets each buffer after all that lead to it.
+    for buffer in (0..BUFFERS).rev().filter(|&b| b != 0) {
+        let cost = costs[buffer];
+        let parts = (1..=buffer).filter(|part| part & !buffer == 0 && part.count_ones() <= a);
+        for part in parts.filter(|_| cost != NEVER) {
+            costs[buffer & !part] = costs[buffer & !part].min(cost + 1);
+        }
+    }
+}
+
+/// One PF after another.
+fn fetches(costs: &mut Costs) {
+    for buffer in 0..BUFFERS {
+        for page in (0..=PAGES).map(|page| 1 << page).filter(|page| buffer & page == 0) {
+            costs[buffer | page] = costs[buffer | page].min(costs[buffer]);
+        }
+    }
+}
+
+/// The request: its page is added, and at most k pages may be held.
+fn closed(costs: &Costs, page: u32, k: u32) -> Costs {
+    let mut after = [NEVER; BUFFERS];
+    for (buffer, &cost) in costs.iter().enumerate() {
+        let held = buffer | 1 << page;
+        if held.count_ones() <= k {
+            after[held] = after[held].min(cost);
+        }
+    }
+    after
+}
+
+/// The least cost of a legal schedule of a trace.
+fn least_cost(k: u32, a: u32, trace: &[u32]) -> u32 {
+    let mut costs = [NEVER; BUFFERS];
+    costs[0] = 0;
+    for &page in trace {
+        evictions(&mut costs, a);
+        fetches(&mut costs);
+        costs = closed(&costs, page, k);
+    }
+    costs.iter().copied().min().unwrap_or(NEVER)
+}
+
+fn show(k: u32, a: u32, trace: &[u32]) -> Vec<(&'static str, String)> {
+    vec![("k, a", format!("{} {}", k, a)), ("trace", format!("{:?}", trace))]
+}
+
+fn check_counts(k: u32, a: u32, trace: &[u32]) {
+    let least = least_cost(k, a, trace);
+    let best = min::run(k, a, trace).map(|run| run.bundles.len() as u32);
+    if best != Ok(least) {
+        differs("MIN's count is the least", &show(k, a, trace), &least, &best);
+    }
+    let layered = layers::run(k, a, trace).map(|run| run.bundles);
+    if layered != Ok(least) {
+        differs("the layers count MIN's bundles", &show(k, a, trace), &least, &layered);
+    }
+    let most = (k + a - 1) / a * least;
+    let recent = lru::run(k, a, trace).map(|run| run.bundles.len() as u32);
+    if !matches!(recent, Ok(count) if count <= most) {
+        differs("LRU's factor", &show(k, a, trace), &most, &recent);
+    }
+}
+
+/// Continuations without a repeated page, over pages 0 to 3: what MIN's rule asks of the future is
+/// only the order in which pages are first requested in it, so these stand for all.
+fn arrangements(used: u32, so_far: &[u32], out: &mut Vec<Vec<u32>>) {
+    out.push(so_far.to_vec());
+    for page in (0..PAGES).filter(|page| used & (1 << page) == 0) {
+        let longer = [so_far, &[page]].concat();
+        arrangements(used | 1 << page, &longer, out);
+    }
+}
+
+fn held_sets(k: u32, a: u32, trace: &[u32], continuations: &[Vec<u32>]) -> HashSet<BTreeSet<u32>> {
+    let held = |more: &Vec<u32>| {
+        let whole = [trace, more].concat();
+        min::run_until(k, a, &whole, trace.len()).expect("k and a are sound").held
+    };
+    continuations.iter().map(held).collect()
+}
+
+fn check_sets(k: u32, a: u32, trace: &[u32], continuations: &[Vec<u32>]) {
+    let held = held_sets(k, a, trace, continuations);
+    let layers = layers::run(k, a, trace).expect("k and a are sound").layers;
+    for bits in 0..BUFFERS {
+        let set: BTreeSet<u32> = (0..=PAGES).filter(|page| bits & (1 << page) != 0).collect();
+        let answer = layers::possible_of(&layers, &set);
+        if (answer == Possible::Yes) != held.contains(&set) {
+            let mut input = show(k, a, trace);
+            input.push(("set", format!("{:?}", set)));
+            differs("possible sets", &input, &held.contains(&set), &answer);
+        }
+    }
+}
+
+/// All lists over some number of symbols, up to a length, the shorter ones first.
+fn lists(symbols: u32, length: usize) -> Vec<Vec<u32>> {
+    let mut out: Vec<Vec<u32>> = vec![vec![]];
+    let mut from = 0;
+    for _ in 0..length {
+        let to = out.len();
+        for place in from..to {
+            for symbol in 0..symbols {
+                out.push([&out[place][..], &[symbol]].concat());
+            }
+        }
+        from = to;
+    }
+    out
+}
+
+/// Every EV and PF that a file may name for n requests, pages 0 to 2 and n up to 2, wrong ones too.
+fn all_entries(n: u32) -> Vec<Entry> {
+    let mut out = Vec::new();
+    for t in 0..=n {
+        out.extend((0..3).map(|page| Entry::Pf { t, page }));
+        let pages = lists(3, 2).into_iter().filter(|list| !list.is_empty());
+        out.extend(pages.map(|pages| Entry::Ev { t, pages }));
+    }
+    out
+}
+
+/// Whether a list of entries is legal, by document 01's paragraph alone, and its cost.
+fn legal_cost(k: u32, a: u32, trace: &[u32], entries: &[Entry]) -> Option<u32> {
+    let mut left = entries;
+    let mut held = BTreeSet::new();
+    let mut cost = 0;
+    for (now, &requested) in (0..).zip(trace) {
+        while let [Entry::Ev { t, pages }, rest @ ..] = left {
+            let different = pages.iter().collect::<BTreeSet<_>>().len() == pages.len();
+            if *t != now || !different || pages.len() > a as usize || pages.iter().any(|p| !held.remove(p)) {
+                break;
+            }
+            cost += 1;
+            left = rest;
+        }
+        while let [Entry::Pf { t, page }, rest @ ..] = left {
+            if *t != now || !held.insert(*page) {
+                break;
+            }
+            left = rest;
+        }
+        held.insert(requested);
+        if held.len() > k as usize {
+            return None;
+        }
+    }
+    if left.is_empty() {
+        Some(cost)
+    } else {
+        None
+    }
+}
+
+fn check_files(k: u32, a: u32, trace: &[u32], entries: &[Entry]) {
+    let (trace_bytes, schedule) = (trace_file(k, a, trace), schedule_file(k, a, entries));
+    let judged = judge::judge(&trace_bytes, &schedule).ok();
+    let legal = legal_cost(k, a, trace, entries);
+    if judged != legal {
+        let mut input = show(k, a, trace);
+        input.push(("entries", format!("{:?}", entries)));
+        differs("the judge accepts the legal schedules", &input, &legal, &judged);
+    }
+}
+
+/// Files of up to two entries for traces of up to three requests; the number tried.
+fn try_files() -> usize {
+    let mut tried = 0;
+    for trace in lists(2, 3) {
+        let choices = all_entries(trace.len() as u32);
+        for (k, a) in [(1, 1), (2, 1), (2, 2)] {
+            check_files(k, a, &trace, &[]);
+            for first in &choices {
+                check_files(k, a, &trace, std::slice::from_ref(first));
+                for second in &choices {
+                    check_files(k, a, &trace, &[first.clone(), second.clone()]);
+                }
+            }
+            tried += 1 + choices.len() * (choices.len() + 1);
+        }
+    }
+    tried
+}
+
+fn main() {
+    let sizes: Vec<(u32, u32)> = (1..=4).flat_map(|k| (1..=k).map(move |a| (k, a))).collect();
+    let mut continuations = Vec::new();
+    arrangements(0, &[], &mut continuations);
+    let repeating = lists(PAGES, 4);
+    let (mut counts, mut sets) = (0, 0);
+    for trace in lists(PAGES, 6) {
+        for &(k, a) in &sizes {
+            check_counts(k, a, &trace);
+            counts += 1;
+            if trace.len() <= 5 {
+                check_sets(k, a, &trace, &continuations);
+                sets += 1;
+            }
+            if trace.len() <= 3 {
+                check_sets(k, a, &trace, &repeating);
+            }
+        }
+    }
+    println!("all schedules: {} traces with k, a agree on counts, {} on possible sets", counts, sets);
+    println!("all schedules: {} pairs of files judged as document 01's legal schedules", try_files());
+}

@@ -1,0 +1,280 @@
+//! Times the proved code beside plain versions on the same input, in one run, and prints a table.
+//! Run it by tests/speed. Usage: speed PROGRAM PLAIN_PROGRAM [PART ..]
+//!
+//! PROGRAM is `bench`, PLAIN_PROGRAM plain_bench; a PART is one of bench, next, min, lru, layers, judge,
+//! and without any all are timed. Each time is the least of several repeats.
+
+use bench_tests::exported::exports;
+use bench_tests::exported::judge::judge;
+use bench_tests::model::files::{schedule_file, trace_file, Entry};
+use bench_tests::model::{layers, lru, BENCH_MAX, TRACE_MAX};
+use bench_tests::plain;
+use bench_tests::rng::Rng;
+use bench_tests::schedules::legal;
+use bench_tests::timing::{opaque, Table, REPEATS};
+use bench_tests::traces::{of_kind, scattered, Kind, KINDS};
+use std::io::Write;
+use std::process::{Command, Stdio};
+
+const K: u32 = 256;
+
+/// A name for pages that all have the same low half.
+fn low_half_zero(name: usize) -> u32 {
+    (name as u32) << 16
+}
+
+/// The timed traces with their names: four kinds with scattered pages, and for a 1 one with equal low
+/// halves.
+fn traces(a: u32, n: usize) -> Vec<(String, Vec<u32>)> {
+    let mut rng = Rng::new(4);
+    let mut out: Vec<(String, Vec<u32>)> = KINDS
+        .iter()
+        .map(|&kind| (format!("a {}, {}", a, kind.name()), of_kind(kind, K, a, n, &mut rng, scattered)))
+        .collect();
+    if a == 1 {
+        let equal = of_kind(Kind::Many, K, a, n, &mut rng, low_half_zero);
+        out.push(("a 1, many pages, equal low halves".to_string(), equal));
+    }
+    out
+}
+
+/// Runs a program on an input and gives its output.
+fn output(program: &str, input: &[u8]) -> String {
+    let mut child = Command::new(program)
+        .stdin(Stdio::piped())
+        .stdout(Stdio::piped())
+        .spawn()
+        .expect("the program is there");
+    let mut stdin = child.stdin.take().expect("standard input is a pipe");
+    stdin.write_all(input).expect("the program reads its whole input");
+    drop(stdin);
+    let output = child.wait_with_output().expect("the program ends");
+    String::from_utf8_lossy(&output.stdout).into_owned()
+}
+
+fn time_bench(table: &mut Table, program: &str, plain_program: &str) {
+    let mut inputs = vec![("no request".to_string(), trace_file(K, 1, &[]))];
+    for a in [1, 64] {
+        let named = traces(a, BENCH_MAX).into_iter();
+        inputs.extend(named.map(|(name, pages)| (name, trace_file(K, a, &pages))));
+    }
+    for (name, input) in inputs {
+        let (ours, plain) = (&mut || output(program, &input), &mut || output(plain_program, &input));
+        table.row("bench on 4,096 requests", name, 1, ours, plain);
+    }
+}
+
+/// With k 1 MIN does little but find next requests.
+fn time_next(table: &mut Table) {
+    for (name, pages) in traces(1, TRACE_MAX) {
+        table.row(
+            "next requests (MIN, k 1)",
+            name,
+            1,
+            &mut || exports::min_loads(1, 1, opaque(&pages)) > 0,
+            &mut || plain::min::lefts(opaque(&pages)).len() == TRACE_MAX,
+        );
+    }
+}
+
+fn time_min(table: &mut Table) {
+    for a in [1, 64] {
+        for (name, pages) in traces(a, TRACE_MAX) {
+            table.row("MIN", name, 1, &mut || exports::min_bundles(K, a, opaque(&pages)), &mut || {
+                i64::from(plain::min::run(K, a, opaque(&pages), |_, _| {}).0)
+            });
+        }
+    }
+}
+
+fn time_min_schedule(table: &mut Table) {
+    let mut out = vec![0; 6 + TRACE_MAX * 12];
+    for a in [1, 64] {
+        for (name, pages) in traces(a, TRACE_MAX) {
+            table.row(
+                "MIN and its schedule",
+                name,
+                1,
+                &mut || exports::min_schedule(K, a, opaque(&pages), &mut out),
+                &mut || plain::min::schedule(K, a, opaque(&pages)).len() as i64,
+            );
+        }
+    }
+}
+
+fn time_lru(table: &mut Table) {
+    for a in [1, 64] {
+        for (name, pages) in traces(a, TRACE_MAX) {
+            table.row("LRU", name, 1, &mut || exports::lru_bundles(K, a, opaque(&pages)), &mut || {
+                i64::from(plain::lru::run(K, a, opaque(&pages)).0)
+            });
+        }
+    }
+}
+
+/// Single requests that leave a full buffer full: `page` says which page each call asks for.
+fn time_lru_requests(table: &mut Table, what: &str, page: fn(usize) -> usize, name: fn(usize) -> u32) {
+    const CALLS: usize = 20_000;
+    let record = lru::Record { k: K, a: 1, requests: 1_000, loads: 500, evictions: 200 };
+    let start: Vec<u32> = (0..K as usize).map(name).collect();
+    let pages: Vec<u32> = (0..CALLS).map(|call| name(page(call))).collect();
+    let ours = || {
+        let (mut cache, mut evicted) = (start.clone(), [0; 1]);
+        let mut serve = |page| exports::lru_request(&record, K, &mut cache, &mut evicted, page);
+        pages.iter().map(|&page| serve(page)).sum::<i64>()
+    };
+    let plain = || {
+        let (mut cache, mut evicted, mut count) = (start.clone(), [0; 1], K as usize);
+        let mut serve = |page| plain::lru::request(K as usize, 1, &mut count, &mut cache, &mut evicted, page);
+        pages.iter().map(|&page| i64::from(serve(page))).sum::<i64>()
+    };
+    table.row("one LRU request", what.to_string(), CALLS, &mut { ours }, &mut { plain });
+}
+
+fn time_layers(table: &mut Table) {
+    for a in [1, 64] {
+        for (name, pages) in traces(a, TRACE_MAX) {
+            let (mut places, mut numbers) = (vec![0; TRACE_MAX], vec![0; TRACE_MAX]);
+            let ours = || {
+                places.fill(0);
+                numbers.fill(0);
+                exports::layers_bundles(K, a, opaque(&pages), &mut places, &mut numbers)
+            };
+            let plain = || i64::from(plain::layers::run(K, a, opaque(&pages)).0);
+            table.row("layers", name, 1, &mut { ours }, &mut { plain });
+        }
+    }
+}
+
+/// A full table but for one place, s = k, a 128: layers 127 and 128 are long, with pages in turn.
+fn long_table(places: usize, name: fn(usize) -> u32) -> plain::layers::Table {
+    let mut rows: Vec<(u32, u32)> = (0..places - 1)
+        .map(|row| match row as u32 {
+            single if single < 126 => (single + 1, name(row)),
+            single if single < 254 => (single + 3, name(row)),
+            other => (127 + other % 2, name(row)),
+        })
+        .collect();
+    rows.sort_unstable();
+    let pages = rows.iter().map(|row| row.1).collect();
+    let numbers = rows.iter().map(|row| row.0).collect();
+    plain::layers::Table { pages, numbers, s: K }
+}
+
+/// One request for `page` on a long table; a copy of the table for each repeat is made beforehand.
+fn time_layers_request(table: &mut Table, what: String, long: &plain::layers::Table, page: u32) {
+    let record = layers::Record { k: K, a: 128, requests: 1_000_000, evictions: 1_000, s: long.s };
+    let places = long.pages.len() + 1;
+    let (mut pages, mut numbers) = (long.pages.clone(), long.numbers.clone());
+    pages.resize(places, 0);
+    numbers.resize(places, 0);
+    let mut lists = vec![(pages, numbers); REPEATS];
+    let mut longs = vec![long.clone(); REPEATS];
+    for long in &mut longs {
+        long.pages.reserve(1);
+        long.numbers.reserve(1);
+    }
+    let ours = || {
+        let (mut pages, mut numbers) = lists.pop().expect("a copy for each repeat");
+        exports::layers_request(&record, &mut pages, &mut numbers, page)
+    };
+    let plain = || {
+        let mut long = longs.pop().expect("a copy for each repeat");
+        long.request(K, 128, page);
+        i64::from(long.s)
+    };
+    let job = if places == 4_096 {
+        "one layers request, 4,096 places"
+    } else {
+        "one layers request, 65,536 places"
+    };
+    table.row(job, what, 1, &mut { ours }, &mut { plain });
+}
+
+fn time_layers_requests(table: &mut Table) {
+    for places in [4_096, 65_536] {
+        for (naming, name) in [("", scattered as fn(usize) -> u32), (", equal low halves", low_half_zero)] {
+            let long = long_table(places, name);
+            let asked = [
+                ("new page", name(places - 1)),
+                ("newest page", long.pages[places - 2]),
+                ("joining two long layers", long.pages[places - 200]),
+            ];
+            for (what, page) in asked {
+                time_layers_request(table, format!("{}{}", what, naming), &long, page);
+            }
+        }
+    }
+}
+
+fn time_judge(table: &mut Table) {
+    for a in [1, 64] {
+        for (name, pages) in traces(a, TRACE_MAX) {
+            let trace = trace_file(K, a, &pages);
+            let best = plain::min::schedule(K, a, &pages);
+            let drawn = schedule_file(K, a, &legal(K, a, &pages, &mut Rng::new(5)));
+            for (whose, schedule) in [("MIN's schedule", best), ("a drawn schedule", drawn)] {
+                table.row(
+                    "judge",
+                    format!("{}, {}", name, whose),
+                    1,
+                    &mut || judge(opaque(&trace), opaque(&schedule)),
+                    &mut || plain::judge::judge(opaque(&trace), opaque(&schedule)).map_or(-1, i64::from),
+                );
+            }
+        }
+    }
+}
+
+/// Pages fetched ahead at one request, far more than there are places.
+fn time_fetches(table: &mut Table) {
+    for (count, name) in [(50_000, "50,000"), (100_000, "100,000"), (200_000, "200,000")] {
+        let trace = trace_file(K, 1, &[1]);
+        let many: Vec<Entry> = (0..count).map(|page| Entry::Pf { t: 0, page: scattered(page + 2) }).collect();
+        let schedule = schedule_file(K, 1, &many);
+        table.row(
+            "judge, PFs at one request",
+            name.to_string(),
+            1,
+            &mut || judge(opaque(&trace), opaque(&schedule)) < 0,
+            &mut || plain::judge::judge(opaque(&trace), opaque(&schedule)).is_none(),
+        );
+    }
+}
+
+fn main() {
+    let words: Vec<String> = std::env::args().skip(1).collect();
+    let (program, plain_program) = match &words[..] {
+        [program, plain_program, ..] => (program, plain_program),
+        _ => panic!("usage: speed PROGRAM PLAIN_PROGRAM [PART ..]"),
+    };
+    let wanted = |part: &str| words.len() == 2 || words[2..].iter().any(|word| word == part);
+    let mut table = Table::default();
+    if wanted("bench") {
+        time_bench(&mut table, program, plain_program);
+    }
+    if wanted("next") {
+        time_next(&mut table);
+    }
+    if wanted("min") {
+        time_min(&mut table);
+        time_min_schedule(&mut table);
+    }
+    if wanted("lru") {
+        time_lru(&mut table);
+        time_lru_requests(&mut table, "oldest page", |call| call % 256, scattered);
+        time_lru_requests(&mut table, "newest page", |_| 255, scattered);
+        time_lru_requests(&mut table, "new page", |call| (call + 256) % 257, scattered);
+        time_lru_requests(&mut table, "oldest page, equal low halves", |call| call % 256, low_half_zero);
+        time_lru_requests(&mut table, "new page, equal low halves", |call| (call + 256) % 257, low_half_zero);
+    }
+    if wanted("layers") {
+        time_layers(&mut table);
+        time_layers_requests(&mut table);
+    }
+    if wanted("judge") {
+        time_judge(&mut table);
+        time_fetches(&mut table);
+    }
+    table.worst();
+}

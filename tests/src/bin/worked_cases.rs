@@ -1,0 +1,119 @@
+//! Document 01's worked cases, by hand, against the second implementation: a reader who doubts the
+//! model starts here. Nothing of the proved crates is run.
+
+use bench_tests::model::layers::{self, Layers, Possible};
+use bench_tests::model::{files, judge, lines, lru, min};
+use bench_tests::report::differs;
+use std::collections::BTreeSet;
+use std::fmt::Debug;
+
+const SHIFT: [u32; 8] = [1, 2, 3, 4, 2, 5, 6, 1];
+
+struct Cases(u32);
+
+impl Cases {
+    fn same<T: PartialEq + Debug>(&mut self, name: &str, got: T, expected: T) {
+        if got != expected {
+            differs("worked cases", &[("case", name.to_string())], &expected, &got);
+        }
+        self.0 += 1;
+    }
+}
+
+fn sets(layers: &[&[u32]]) -> Layers {
+    layers.iter().map(|layer| layer.iter().copied().collect()).collect()
+}
+
+fn bundles(k: u32, a: u32, trace: &[u32]) -> [u32; 3] {
+    let best = min::run(k, a, trace).map(|run| run.bundles.len() as u32);
+    let recent = lru::run(k, a, trace).map(|run| run.bundles.len() as u32);
+    let layered = layers::run(k, a, trace).map(|run| run.bundles);
+    [best, recent, layered].map(|count| count.expect("k and a are sound"))
+}
+
+/// The answer of the last of a list of layer requests on a table of some places.
+fn last_request(k: u32, a: u32, places: usize, trace: &[u32]) -> Result<u32, u32> {
+    let mut record = layers::Record { k, a, requests: 0, evictions: 0, s: 0 };
+    let (mut pages, mut numbers) = (vec![0; places], vec![0; places]);
+    for &page in trace {
+        record = layers::request(&record, &mut pages, &mut numbers, page)?;
+    }
+    Ok(record.s)
+}
+
+fn marked(cases: &mut Cases) {
+    let file = files::trace_file(3, 2, &SHIFT);
+    cases.same("the shift's bytes", file.len(), 54);
+    cases.same("1", lines::lines(&file), "trace 3 2 8\nmin 2 7\nlru 3 8\nlayers 2 3 2\n".to_string());
+    let best = min::run(3, 2, &SHIFT).map(|run| run.bundles);
+    cases.same("2", best, Ok(vec![(3, vec![3, 1]), (6, vec![2, 4])]));
+    let recent = lru::run(3, 2, &SHIFT).map(|run| run.bundles.into_iter().map(|b| b.1).collect::<Vec<_>>());
+    cases.same("3", recent, Ok(vec![vec![1, 2], vec![3, 4], vec![2, 5]]));
+    let layered = layers::run(3, 2, &SHIFT).map(|run| run.layers);
+    cases.same("4", layered, Ok(sets(&[&[2, 4, 5], &[6], &[1]])));
+    cases.same("7", bundles(2, 2, &[1, 2, 3]), [1, 1, 1]);
+    cases.same("7, s", last_request(2, 2, 3, &[1, 2, 3]), Ok(1));
+    cases.same("8", bundles(1, 1, &[1, 2, 1]), [2, 2, 2]);
+    cases.same("9", last_request(2, 1, 2, &[1, 2, 3]), Err(10));
+    cases.same("9, a 2", last_request(2, 2, 2, &[1, 2, 3]), Ok(1));
+    cases.same("10", last_request(2, 1, 3, &[1, 2, 3, 1, 4]), Ok(2));
+}
+
+/// Cases 5 and 6: sets after seven requests.
+fn questions(cases: &mut Cases) {
+    let run = layers::run(3, 2, &SHIFT[..7]).expect("k and a are sound");
+    let s = run.layers.len() as u32;
+    let record = layers::Record { k: 3, a: 2, requests: 7, evictions: run.bundles, s };
+    let (mut pages, mut numbers) = ([0; 9], [0; 9]);
+    layers::write_table(&run.layers, &mut pages, &mut numbers);
+    let ask = |set: &[u32]| layers::possible(&record, &pages, &numbers, set);
+    cases.same("5", ask(&[5, 6]), Ok(Possible::Yes));
+    cases.same("6, first", ask(&[2, 4]), Ok(Possible::BreaksAt(1)));
+    cases.same("6, second", ask(&[1, 6]), Ok(Possible::BreaksAt(0)));
+    cases.same("6, third", ask(&[6]), Ok(Possible::CountDiffers));
+    cases.same("6, fourth", ask(&[6, 6]), Err(11));
+    let after = min::run_until(3, 2, &[1, 2, 3, 4, 2, 5, 6, 5, 6], 7).map(|run| run.held);
+    cases.same("5, MIN", after, Ok(BTreeSet::from([5, 6])));
+}
+
+fn others(cases: &mut Cases) {
+    cases.same("k 256", bundles(256, 256, &SHIFT), [0, 0, 0]);
+    cases.same("k 257", min::run(257, 1, &SHIFT), Err(1));
+    cases.same("a = k", bundles(3, 3, &SHIFT), [2, 2, 2]);
+    cases.same("a = k + 1", min::run(3, 4, &SHIFT), Err(2));
+    let mut bytes = [7; 40];
+    cases.same("an empty trace", min::write(3, 2, &[], &mut bytes), Ok(6));
+    let empty = files::trace_file(3, 2, &[]);
+    cases.same(
+        "its lines",
+        lines::lines(&empty),
+        "trace 3 2 0\nmin 0 0\nlru 0 0\nlayers 0 0 0\n".to_string(),
+    );
+    cases.same("5 5 5", min::run(3, 2, &[5, 5, 5]).map(|run| (run.bundles, run.loads)), Ok((vec![], 1)));
+    let mut bytes = [7; 40];
+    cases.same("37 bytes", min::write(3, 2, &SHIFT, &mut bytes[..37]), Err(8));
+    cases.same("37 bytes, untouched", bytes, [7; 40]);
+    cases.same("38 bytes", min::write(3, 2, &SHIFT, &mut bytes), Ok(38));
+    cases.same("bytes past them", bytes[38..].to_vec(), vec![7, 7]);
+    let trace = files::trace_file(3, 2, &SHIFT);
+    cases.same("its judgement", judge::judge(&trace, &bytes[..38]), Ok(2));
+    cases.same("KA alone", judge::judge(&trace, &bytes[..6]), Err(7));
+    cases.same("4 5 6 4", lru::run(3, 2, &[1, 2, 3, 4, 5, 6, 4]).map(|run| run.loads), Ok(7));
+}
+
+/// The readings' case of places between the count and k.
+fn lru_places(cases: &mut Cases) {
+    let record = lru::Record { k: 3, a: 1, requests: 1, loads: 1, evictions: 0 };
+    let mut cache = [5, 9, 9, 9];
+    let answer = lru::request(&record, 1, &mut cache, &mut [0], 5).map(|served| served.answer);
+    cases.same("a hit, count 1", (answer, cache), (Ok(0), [5, 0, 0, 9]));
+}
+
+fn main() {
+    let mut cases = Cases(0);
+    marked(&mut cases);
+    questions(&mut cases);
+    others(&mut cases);
+    lru_places(&mut cases);
+    println!("worked cases: {} agree", cases.0);
+}

@@ -1,0 +1,18 @@
+//! The alpha-paging bench a second time, written from document 01 alone, and what the test programs
+//! share. Nothing here is taken from the proved crates.
+//!
+//! `model` is the second implementation: slow where slow is plainer.
+//! `plain` has the versions without checks that the timings compare with.
+
+pub mod damage;
+#[cfg(any(feature = "judge", feature = "exports"))]
+pub mod exported;
+pub mod judge_cases;
+pub mod model;
+pub mod plain;
+pub mod report;
+pub mod rng;
+pub mod schedules;
+pub mod states;
+pub mod timing;
+pub mod traces;

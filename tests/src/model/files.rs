@@ -1,0 +1,154 @@
+//! Files: the four records, read one by one, and written.
+
+use super::{check_sizes, Refusal};
+
+/// A trace's file, read.
+#[derive(Clone, Debug, PartialEq, Eq)]
+pub struct Trace {
+    pub k: u32,
+    pub a: u32,
+    pub pages: Vec<u32>,
+}
+
+/// A record of a schedule after its KA.
+#[derive(Clone, Debug, PartialEq, Eq)]
+pub enum Entry {
+    Ev { t: u32, pages: Vec<u32> },
+    Pf { t: u32, page: u32 },
+}
+
+/// A place in a file.
+pub struct Cursor<'a> {
+    rest: &'a [u8],
+}
+
+impl<'a> Cursor<'a> {
+    pub fn new(bytes: &'a [u8]) -> Self {
+        Cursor { rest: bytes }
+    }
+
+    pub fn at_end(&self) -> bool {
+        self.rest.is_empty()
+    }
+
+    /// The next n bytes; 5 if the file ends before.
+    fn take(&mut self, n: usize) -> Result<&'a [u8], Refusal> {
+        if self.rest.len() < n {
+            return Err(5);
+        }
+        let (head, tail) = self.rest.split_at(n);
+        self.rest = tail;
+        Ok(head)
+    }
+
+    fn number(&mut self, width: usize) -> Result<u32, Refusal> {
+        let bytes = self.take(width)?;
+        Ok(bytes.iter().rev().fold(0, |n, &b| n << 8 | u32::from(b)))
+    }
+
+    /// The next mark; 4 if it is none of those expected here.
+    fn mark(&mut self, expected: &[&[u8; 2]]) -> Result<&'a [u8], Refusal> {
+        let mark = self.take(2)?;
+        if expected.iter().any(|&e| e == mark) {
+            Ok(mark)
+        } else {
+            Err(4)
+        }
+    }
+
+    /// A KA record: 4 and 5, then 1 and 2.
+    pub fn sizes(&mut self) -> Result<(u32, u32), Refusal> {
+        self.mark(&[b"KA"])?;
+        let mut fields = Cursor::new(self.take(4)?);
+        let (k, a) = (fields.number(2)?, fields.number(2)?);
+        check_sizes(k, a)?;
+        Ok((k, a))
+    }
+
+    /// An RQ record's page.
+    fn request(&mut self) -> Result<u32, Refusal> {
+        self.mark(&[b"RQ"])?;
+        self.number(4)
+    }
+
+    /// An EV or PF record, in the order mark, fixed fields, n, pages; n is at most `most`.
+    pub fn entry(&mut self, most: u32) -> Result<Entry, Refusal> {
+        if self.mark(&[b"EV", b"PF"])? == b"PF" {
+            let mut fields = Cursor::new(self.take(8)?);
+            let (t, page) = (fields.number(4)?, fields.number(4)?);
+            return Ok(Entry::Pf { t, page });
+        }
+        let mut fields = Cursor::new(self.take(6)?);
+        let (t, n) = (fields.number(4)?, fields.number(2)?);
+        if n == 0 || n > most {
+            return Err(6);
+        }
+        let mut list = Cursor::new(self.take(4 * n as usize)?);
+        let pages = (0..n).map(|_| list.number(4)).collect::<Result<_, _>>()?;
+        Ok(Entry::Ev { t, pages })
+    }
+}
+
+/// Reads a trace of at most `most` requests. A request too many is judged for 4 and 5 before 3.
+pub fn read_trace(bytes: &[u8], most: usize) -> Result<Trace, Refusal> {
+    let mut file = Cursor::new(bytes);
+    let (k, a) = file.sizes()?;
+    let mut pages = Vec::new();
+    while !file.at_end() {
+        let page = file.request()?;
+        if pages.len() == most {
+            return Err(3);
+        }
+        pages.push(page);
+    }
+    Ok(Trace { k, a, pages })
+}
+
+pub fn put_sizes(out: &mut Vec<u8>, k: u32, a: u32) {
+    out.extend_from_slice(b"KA");
+    out.extend_from_slice(&k.to_le_bytes()[..2]);
+    out.extend_from_slice(&a.to_le_bytes()[..2]);
+}
+
+pub fn put_request(out: &mut Vec<u8>, page: u32) {
+    out.extend_from_slice(b"RQ");
+    out.extend_from_slice(&page.to_le_bytes());
+}
+
+pub fn put_entry(out: &mut Vec<u8>, entry: &Entry) {
+    match entry {
+        Entry::Ev { t, pages } => {
+            out.extend_from_slice(b"EV");
+            out.extend_from_slice(&t.to_le_bytes());
+            out.extend_from_slice(&(pages.len() as u32).to_le_bytes()[..2]);
+            for page in pages {
+                out.extend_from_slice(&page.to_le_bytes());
+            }
+        }
+        Entry::Pf { t, page } => {
+            out.extend_from_slice(b"PF");
+            out.extend_from_slice(&t.to_le_bytes());
+            out.extend_from_slice(&page.to_le_bytes());
+        }
+    }
+}
+
+/// The bytes of a trace's file.
+pub fn trace_file(k: u32, a: u32, pages: &[u32]) -> Vec<u8> {
+    let mut out = Vec::new();
+    put_sizes(&mut out, k, a);
+    for &page in pages {
+        put_request(&mut out, page);
+    }
+    out
+}
+
+/// The bytes of a schedule's file.
+pub fn schedule_file(k: u32, a: u32, entries: &[Entry]) -> Vec<u8> {
+    let mut out = Vec::new();
+    put_sizes(&mut out, k, a);
+    for entry in entries {
+        put_entry(&mut out, entry);
+    }
+    out
+}

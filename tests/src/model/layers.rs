@@ -1,0 +1,195 @@
+//! The layers, one request at a time, their questions, and a whole trace.
+
+use super::{check_sizes, Refusal};
+use std::collections::BTreeSet;
+
+/// The layers' record.
+#[derive(Clone, Debug, PartialEq, Eq)]
+pub struct Record {
+    pub k: u32,
+    pub a: u32,
+    pub requests: u32,
+    pub evictions: u32,
+    pub s: u32,
+}
+
+/// L1 to Ls, the first at place 0.
+pub type Layers = Vec<BTreeSet<u32>>;
+
+/// The answer to the question on a set.
+#[derive(Clone, Copy, Debug, PartialEq, Eq)]
+pub enum Possible {
+    Yes,
+    CountDiffers,
+    BreaksAt(u32),
+}
+
+/// Puts two layers together, the smaller into the larger.
+fn join(mut one: BTreeSet<u32>, mut other: BTreeSet<u32>) -> BTreeSet<u32> {
+    if one.len() < other.len() {
+        std::mem::swap(&mut one, &mut other);
+    }
+    one.extend(other);
+    one
+}
+
+/// Rules 1a, 1b and 1c; true if a bundle is counted.
+pub fn serve(k: u32, a: u32, layers: &mut Layers, page: u32) -> bool {
+    let (k, a) = (k as usize, a as usize);
+    let full = layers.len() == k;
+    let mut counted = false;
+    match layers.iter().position(|layer| layer.contains(&page)) {
+        None if full => {
+            let joined = layers.drain(k - a..).fold(BTreeSet::new(), join);
+            if let Some(below) = layers.pop() {
+                layers.push(join(below, joined));
+            }
+            counted = true;
+        }
+        None => {}
+        Some(i) => {
+            let mut rest = layers.remove(i);
+            rest.remove(&page);
+            if i > 0 {
+                let below = std::mem::take(&mut layers[i - 1]);
+                layers[i - 1] = join(below, rest);
+            }
+        }
+    }
+    layers.push(BTreeSet::from([page]));
+    counted
+}
+
+/// The layers of a table; 9 if it is not well formed.
+fn read_table(record: &Record, pages: &[u32], numbers: &[u32]) -> Result<Layers, Refusal> {
+    let used = numbers.iter().position(|&n| n == 0).unwrap_or(numbers.len());
+    let rest_unused = pages[used..].iter().chain(&numbers[used..]).all(|&x| x == 0);
+    let rows: Vec<(u32, u32)> = numbers[..used].iter().copied().zip(pages[..used].iter().copied()).collect();
+    let ordered = rows.windows(2).all(|pair| pair[0] < pair[1]);
+    if !rest_unused || !ordered || record.s > record.k {
+        return Err(9);
+    }
+    let mut layers: Layers = vec![BTreeSet::new(); record.s as usize];
+    for &(number, page) in &rows {
+        if number > record.s {
+            return Err(9);
+        }
+        layers[number as usize - 1].insert(page);
+    }
+    let different: BTreeSet<u32> = rows.iter().map(|row| row.1).collect();
+    if different.len() < rows.len() || !sizes_fit(record, &layers) {
+        return Err(9);
+    }
+    Ok(layers)
+}
+
+/// No layer is empty; every layer above k-a is single, and all are if s is at most k-a.
+fn sizes_fit(record: &Record, layers: &Layers) -> bool {
+    let join_at = record.k - record.a;
+    layers.iter().enumerate().all(|(i, layer)| {
+        let single_due = i as u32 + 1 > join_at || record.s <= join_at;
+        layer.len() == 1 || (!layer.is_empty() && !single_due)
+    })
+}
+
+/// The refusals that requests and questions share, in order: 1, 2, 8, 9.
+fn check(record: &Record, pages: &[u32], numbers: &[u32]) -> Result<Layers, Refusal> {
+    check_sizes(record.k, record.a)?;
+    if pages.len() != numbers.len() {
+        return Err(8);
+    }
+    if record.evictions > record.requests {
+        return Err(9);
+    }
+    read_table(record, pages, numbers)
+}
+
+/// Writes layers into a table that has a place for each page.
+pub fn write_table(layers: &Layers, pages: &mut [u32], numbers: &mut [u32]) {
+    pages.fill(0);
+    numbers.fill(0);
+    let rows = (1..).zip(layers).flat_map(|(number, layer)| layer.iter().map(move |&page| (number, page)));
+    for (place, (number, page)) in rows.enumerate() {
+        pages[place] = page;
+        numbers[place] = number;
+    }
+}
+
+/// One request on a lent table. After the shared refusals come 12 and 10.
+pub fn request(
+    record: &Record,
+    pages: &mut [u32],
+    numbers: &mut [u32],
+    page: u32,
+) -> Result<Record, Refusal> {
+    let mut layers = check(record, pages, numbers)?;
+    if record.requests == u32::MAX {
+        return Err(12);
+    }
+    let counted = serve(record.k, record.a, &mut layers, page);
+    let held: usize = layers.iter().map(BTreeSet::len).sum();
+    if held > pages.len() {
+        return Err(10);
+    }
+    write_table(&layers, pages, numbers);
+    Ok(Record {
+        k: record.k,
+        a: record.a,
+        requests: record.requests + 1,
+        evictions: record.evictions + u32::from(counted),
+        s: layers.len() as u32,
+    })
+}
+
+/// The longest run of single-page layers at the top end.
+pub fn revealed_of(layers: &Layers) -> u32 {
+    layers.iter().rev().take_while(|layer| layer.len() == 1).count() as u32
+}
+
+/// How many pages are revealed.
+pub fn revealed(record: &Record, pages: &[u32], numbers: &[u32]) -> Result<u32, Refusal> {
+    Ok(revealed_of(&check(record, pages, numbers)?))
+}
+
+/// How many pages of a set are in L0 to Li.
+fn from_below(layers: &Layers, set: &BTreeSet<u32>, i: usize) -> usize {
+    set.iter().filter(|page| !layers[i..].iter().any(|layer| layer.contains(page))).count()
+}
+
+/// Document 01's possible set, with the smallest layer of a "no".
+pub fn possible_of(layers: &Layers, set: &BTreeSet<u32>) -> Possible {
+    if set.len() != layers.len() {
+        return Possible::CountDiffers;
+    }
+    match (0..=layers.len()).find(|&i| from_below(layers, set, i) > i) {
+        Some(i) => Possible::BreaksAt(i as u32),
+        None => Possible::Yes,
+    }
+}
+
+/// The question on a set in a list of its own: after the shared refusals comes 11.
+pub fn possible(record: &Record, pages: &[u32], numbers: &[u32], set: &[u32]) -> Result<Possible, Refusal> {
+    let layers = check(record, pages, numbers)?;
+    let different: BTreeSet<u32> = set.iter().copied().collect();
+    if different.len() < set.len() {
+        return Err(11);
+    }
+    Ok(possible_of(&layers, &different))
+}
+
+/// What a whole trace does, from no layers and with room for every page.
+#[derive(Clone, Debug, PartialEq, Eq)]
+pub struct Run {
+    pub bundles: u32,
+    pub layers: Layers,
+}
+
+pub fn run(k: u32, a: u32, trace: &[u32]) -> Result<Run, Refusal> {
+    check_sizes(k, a)?;
+    let mut layers = Vec::new();
+    let mut bundles = 0;
+    for &page in trace {
+        bundles += u32::from(serve(k, a, &mut layers, page));
+    }
+    Ok(Run { bundles, layers })
+}

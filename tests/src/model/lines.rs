@@ -1,0 +1,32 @@
+//! What `bench` prints for its standard input.
+
+use super::files::{read_trace, Trace};
+use super::{layers, lru, min, Refusal, BENCH_MAX};
+
+fn lines_of(trace: &Trace) -> Result<String, Refusal> {
+    let Trace { k, a, pages } = trace;
+    let best = min::run(*k, *a, pages)?;
+    let recent = lru::run(*k, *a, pages)?;
+    let layered = layers::run(*k, *a, pages)?;
+    Ok(format!(
+        "trace {} {} {}\nmin {} {}\nlru {} {}\nlayers {} {} {}\n",
+        k,
+        a,
+        pages.len(),
+        best.bundles.len(),
+        best.loads,
+        recent.bundles.len(),
+        recent.loads,
+        layered.bundles,
+        layered.layers.len(),
+        layers::revealed_of(&layered.layers),
+    ))
+}
+
+/// The four lines, or the line of a refusal.
+pub fn lines(input: &[u8]) -> String {
+    match read_trace(input, BENCH_MAX).and_then(|trace| lines_of(&trace)) {
+        Ok(lines) => lines,
+        Err(refusal) => format!("refused {}\n", refusal),
+    }
+}

@@ -1,0 +1,82 @@
+//! Farthest next use over a whole trace, and the schedule it writes.
+
+use super::files::{schedule_file, Entry};
+use super::{check_trace, Bundle, Refusal};
+use std::collections::{BTreeSet, HashMap};
+
+/// What a trace does, from an empty buffer.
+#[derive(Clone, Debug, PartialEq, Eq)]
+pub struct Run {
+    pub bundles: Vec<Bundle>,
+    pub loads: u32,
+    /// The pages held at the end.
+    pub held: BTreeSet<u32>,
+}
+
+/// For each request the number of the next request for its page; none if there is no further one.
+fn next_requests(trace: &[u32]) -> Vec<Option<usize>> {
+    let mut seen = HashMap::new();
+    let mut next = vec![None; trace.len()];
+    for (t, &page) in trace.iter().enumerate().rev() {
+        next[t] = seen.insert(page, t);
+    }
+    next
+}
+
+/// Held pages with their next requests, ordered so that the first goes first: pages never
+/// requested again by number, then the others from the farthest on.
+fn order(held: &HashMap<u32, Option<usize>>) -> Vec<u32> {
+    let mut rows: Vec<(Option<usize>, u32)> = held.iter().map(|(&page, &next)| (next, page)).collect();
+    rows.sort_by(|x, y| match (x.0, y.0) {
+        (None, None) => x.1.cmp(&y.1),
+        (None, Some(_)) => std::cmp::Ordering::Less,
+        (Some(_), None) => std::cmp::Ordering::Greater,
+        (Some(s), Some(t)) => t.cmp(&s),
+    });
+    rows.into_iter().map(|row| row.1).collect()
+}
+
+/// MIN's rule on the first `stop` requests of a trace that is known whole.
+pub fn run_until(k: u32, a: u32, trace: &[u32], stop: usize) -> Result<Run, Refusal> {
+    check_trace(k, a, trace)?;
+    let next = next_requests(trace);
+    let mut held: HashMap<u32, Option<usize>> = HashMap::new();
+    let mut bundles = Vec::new();
+    let mut loads = 0;
+    for (t, &page) in trace.iter().enumerate().take(stop) {
+        if !held.contains_key(&page) {
+            loads += 1;
+            if held.len() == k as usize {
+                let bundle = order(&held)[..a as usize].to_vec();
+                for gone in &bundle {
+                    held.remove(gone);
+                }
+                bundles.push((t as u32, bundle));
+            }
+        }
+        held.insert(page, next[t]);
+    }
+    Ok(Run { bundles, loads, held: held.keys().copied().collect() })
+}
+
+pub fn run(k: u32, a: u32, trace: &[u32]) -> Result<Run, Refusal> {
+    run_until(k, a, trace, trace.len())
+}
+
+/// The bytes of a run's schedule.
+pub fn schedule(k: u32, a: u32, bundles: &[Bundle]) -> Vec<u8> {
+    let entries: Vec<Entry> =
+        bundles.iter().map(|(t, pages)| Entry::Ev { t: *t, pages: pages.clone() }).collect();
+    schedule_file(k, a, &entries)
+}
+
+/// Writes the schedule into lent bytes and gives its length; 8, with nothing written, if they are
+/// too few.
+pub fn write(k: u32, a: u32, trace: &[u32], out: &mut [u8]) -> Result<u32, Refusal> {
+    let bytes = schedule(k, a, &run(k, a, trace)?.bundles);
+    if out.len() < bytes.len() {
+        return Err(8);
+    }
+    out[..bytes.len()].copy_from_slice(&bytes);
+    Ok(bytes.len() as u32)
+}

@@ -1,0 +1,8 @@
+//! Plain versions of the timed jobs: what one would write in Rust for speed without proofs, with no
+//! check of the state. The timings compare the proved code with these, and their answers as well.
+
+pub mod bench;
+pub mod judge;
+pub mod layers;
+pub mod lru;
+pub mod min;
