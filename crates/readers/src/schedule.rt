@@ -1,0 +1,43 @@
+// The schedule reader. At offset 0 it expects KA, elsewhere EV, PF or the end.
+ghost use mathlib.Core.Path.{_≡_};
+ghost use Rattle.records.specs.Reading.{readSchedule};
+ghost use Rattle.records.specs.Answers.{scheduleAnswer};
+use records::read::ScheduleRecord;
+
+pub struct ScheduleReader<'a> {
+    pub file: &'a [u8],
+    pub at: usize,
+}
+
+impl<'a> ScheduleReader<'a> {
+    // A reader at the start of a file.
+    pub fn new(file: &'a [u8]) -> ScheduleReader<'a>
+        ensures { λ r. ⌜ (r .file ≡ file .entry) × (r .at ≡ 0) ⌝ }
+    {
+        ScheduleReader { file, at: 0 }
+    }
+
+    // What stands at its offset. `records::read::pages` gives a bundle's pages as a part of the file.
+    pub fn read(self) -> ScheduleRecord
+        ensures { λ r. ⌜ scheduleAnswer r ≡ readSchedule 256 (now (self .entry .file)) (self .entry .at) ⌝ }
+    {
+        records::read::schedule(self.file, self.at)
+    }
+
+    // The same file's reader at another offset: a record says where the next one stands.
+    pub fn moved(self, at: usize) -> ScheduleReader<'a>
+        ensures { λ r. ⌜ (r .file ≡ self .entry .file) × (r .at ≡ at) ⌝ }
+    {
+        ScheduleReader {
+            file: self.file,
+            at,
+        }
+    }
+}
+
+// What a schedule reader of a file finds at an offset, for callers that have no reader.
+pub fn schedule_at(file: &[u8], at: usize) -> ScheduleRecord
+    ensures { λ r. ⌜ scheduleAnswer r ≡ readSchedule 256 (now (file .entry)) at ⌝ }
+{
+    ScheduleReader::new(file).moved(at).read()
+}
