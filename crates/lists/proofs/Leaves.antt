@@ -1,5 +1,5 @@
 -- Laws behind the operations on lent lists: the first place of a page, a list that grows at its end, marks.
-use Prim.Native.Nat.{ℕ, zero, suc, _+_, _-_, _≤_, _<_, min}
+use Prim.Native.Nat.{ℕ, zero, suc, _+_, _-_, _*_, _/_, _≤_, _<_, min}
 use native.Mathlib.Nat.{zero-add, add-zero, suc-add, add-suc}
 use native.Mathlib.Numerals.{add-one}
 use native.Mathlib.Omega.{arith}
@@ -7,7 +7,7 @@ use mathlib.Core.Path.{_≡_, refl, sym, ap, _∙_}
 use mathlib.Core.Bool.{Bool, true, false, not}
 use mathlib.Core.List.{List, [], _∷_, _++_, append-assoc, append-nil}
 use lib.Dec.{eqb, ltb, leb·suc-suc}
-use lib.Bits.{bitAnd, and-le-r}
+use lib.Bits.{and-le-r}
 use mir.Val.{boolByte}
 use lib.ListN.{length, take, drop, getD, set, replicate, length-append, length-take, length-drop, length-replicate, getD-replicate, drop-of-length-le, take-append-drop}
 use lib.Seq.{drop-cons, take-suc, take-all, length-take-le, getD-set-same, getD-set-other, set-at, take-at, drop-at, getD-append-add, getD-drop}
@@ -15,6 +15,7 @@ use borrow.Author.Tests.{eq-eqb, ne-eqb, eqb-true, eqb-false, lt-ltb, le-ltb, no
 use Rattle.lists.specs.Choice.{pick, _and_, _or_}
 use Rattle.lists.specs.Pages.{mem, distinct, toEnd, erase, eraseAll, bit, count}
 use Rattle.lists.specs.Places.{place, movedToEnd, firstDropped, pasted}
+use Rattle.lists.specs.Slots.{slotOf}
 use Rattle.lists.proofs.Choice.{cases, split, clash, and-l, and-r, and-false-r, or-split, eqb-self, eqb-sym}
 use Rattle.lists.proofs.Pages.{count-snoc, count-some, count-absent, without-absent}
 
@@ -83,12 +84,25 @@ distinct-front (x ∷ xs) ys e =
     (λ m. let e′ : distinct xs ≡ false = rw m at e in
     rw (m, distinct-front xs ys e′) (and-false-r (not (mem x ys)) false refl)))
 
--- Marks
+-- a page that stands before its place too is a page twice
+pub twice-at : (pages : List ℕ) (i : ℕ) → i < length pages → mem (getD pages i 0) (take i pages) ≡ true → distinct pages ≡ false
+unfolding _and_
+twice-at pages i h m =
+    let front : distinct (take (suc i) pages) ≡ false =
+    rw (take-suc pages i 0 h, distinct-snoc (take i pages) (getD pages i 0), m) (and-false-r (distinct (take i pages)) false refl) in
+    rw (take-append-drop (suc i) pages) at (distinct-front (take (suc i) pages) (drop (suc i) pages) front)
+
+-- Slots and marks
+
+-- a slot is in its table
+pub slot-le : (mask page : ℕ) → slotOf mask page ≤ mask
+unfolding slotOf
+slot-le mask page = and-le-r (page * 2654435761 / 65536) mask
 
 -- the first i pages are repeat-free, and the mark of each is set
 pub record Fresh (mask : ℕ) (marks pages : List ℕ) (i : ℕ) : Type 0 where
   pub once : distinct (take i pages) ≡ true
-  pub marked : (q : ℕ) → mem q (take i pages) ≡ true → getD marks (bitAnd q mask) 0 ≡ 1
+  pub marked : (q : ℕ) → mem q (take i pages) ≡ true → getD marks (slotOf mask q) 0 ≡ 1
 
 pub fresh-none : (mask : ℕ) (marks pages : List ℕ) → Fresh mask marks pages 0
 fresh-none mask marks pages = record { once = refl; marked = λ q e. clash false e refl }
@@ -96,50 +110,48 @@ fresh-none mask marks pages = record { once = refl; marked = λ q e. clash false
 module _ (mask : ℕ) (marks pages : List ℕ) (i : ℕ) (h : i < length pages) where
   -- the next page is none of the earlier ones, and its mark is set
   fresh-more : mask < length marks → mem (getD pages i 0) (take i pages) ≡ false → Fresh mask marks pages i
-      → Fresh mask (set marks (bitAnd (getD pages i 0) mask) 1) pages (i + 1)
+      → Fresh mask (set marks (slotOf mask (getD pages i 0)) 1) pages (i + 1)
   unfolding _and_ _or_
   fresh-more m n f =
       let p = getD pages i 0 in
-      let b : bitAnd p mask < length marks = omega (arith, and-le-r p mask) in
+      let b : slotOf mask p < length marks = omega (arith, slot-le mask p) in
       let more : take (i + 1) pages ≡ take i pages ++ (p ∷ []) = rw (add-one i) (take-suc pages i 0 h) in
       record {
         once = rw (more, distinct-snoc (take i pages) p, n, f .once) refl;
-        marked = λ q e. cases (eqb (bitAnd q mask) (bitAnd p mask))
-            (λ s. rw (eqb-true (bitAnd q mask) (bitAnd p mask) s) (getD-set-same marks (bitAnd p mask) 1 0 b))
-            (λ s. getD-set-other marks (bitAnd p mask) (bitAnd q mask) 1 0 (eqb-false (bitAnd q mask) (bitAnd p mask) s)
+        marked = λ q e. cases (eqb (slotOf mask q) (slotOf mask p))
+            (λ s. rw (eqb-true (slotOf mask q) (slotOf mask p) s) (getD-set-same marks (slotOf mask p) 1 0 b))
+            (λ s. getD-set-other marks (slotOf mask p) (slotOf mask q) 1 0 (eqb-false (slotOf mask q) (slotOf mask p) s)
             ∙ f .marked q (cases (mem q (take i pages)) (λ t. t)
             (λ t. let e′ = rw (more, mem-append q (take i pages) (p ∷ []), t) at e in
             cases (eqb q p)
-            (λ u. absurd (eqb-false (bitAnd q mask) (bitAnd p mask) s (ap (λ (x : ℕ). bitAnd x mask) (eqb-true q p u))))
+            (λ u. absurd (eqb-false (slotOf mask q) (slotOf mask p) s (ap (λ (x : ℕ). slotOf mask x) (eqb-true q p u))))
             (λ u. clash false (rw u at e′) refl))));
       }
 
-  -- an unset mark rules the page out
-  pub fresh-unmarked : mask < length marks → getD marks (bitAnd (getD pages i 0) mask) 0 ≡ 0 → Fresh mask marks pages i
-      → Fresh mask (set marks (bitAnd (getD pages i 0) mask) 1) pages (i + 1)
-  fresh-unmarked m z f =
-      fresh-more m
-      (cases (mem (getD pages i 0) (take i pages)) (λ t. let one = f .marked (getD pages i 0) t in absurd (omega arith)) (λ t. t))
-      f
+  -- the slot as the code has it
+  module _ (at : ℕ) (a : at ≡ slotOf mask (getD pages i 0)) (m : mask < length marks) (f : Fresh mask marks pages i) where
+    -- an unset mark rules the page out
+    pub fresh-unmarked : getD marks at 0 ≡ 0 → Fresh mask (set marks at 1) pages (i + 1)
+    fresh-unmarked z =
+        let p = getD pages i 0 in
+        let z′ : getD marks (slotOf mask p) 0 ≡ 0 = ap (λ (x : ℕ). getD marks x 0) (sym a) ∙ z in
+        rw a
+        (fresh-more m (cases (mem p (take i pages)) (λ t. let one = f .marked p t in absurd (omega arith)) (λ t. t)) f)
 
-  -- so does an exact look
-  pub fresh-looked : mask < length marks → count (eqb (getD pages i 0)) (take i pages) ≡ 0 → Fresh mask marks pages i
-      → Fresh mask (set marks (bitAnd (getD pages i 0) mask) 1) pages (i + 1)
-  fresh-looked m z f =
-      let p = getD pages i 0 in
-      fresh-more m
-      (cases (mem p (take i pages)) (λ t. let one = count-some (eqb p) p (take i pages) t (eqb-self p) in absurd (omega arith)) (λ t. t))
-      f
+    -- so does an exact look
+    pub fresh-looked : count (eqb (getD pages i 0)) (take i pages) ≡ 0 → Fresh mask (set marks at 1) pages (i + 1)
+    fresh-looked z =
+        let p = getD pages i 0 in
+        rw a
+        (fresh-more m
+        (cases (mem p (take i pages)) (λ t. let one = count-some (eqb p) p (take i pages) t (eqb-self p) in absurd (omega arith)) (λ t. t))
+        f)
 
   -- or it finds the page
   pub twice-found : (count (eqb (getD pages i 0)) (take i pages) ≡ 0 → ⊥) → distinct pages ≡ false
-  unfolding _and_
   twice-found z =
-      let p = getD pages i 0 in
-      let m : mem p (take i pages) ≡ true = cases (mem p (take i pages)) (λ t. t) (λ t. absurd (z (count-absent p (take i pages) t))) in
-      let front : distinct (take (suc i) pages) ≡ false =
-      rw (take-suc pages i 0 h, distinct-snoc (take i pages) p, m) (and-false-r (distinct (take i pages)) false refl) in
-      rw (take-append-drop (suc i) pages) at (distinct-front (take (suc i) pages) (drop (suc i) pages) front)
+      twice-at pages i h
+      (cases (mem (getD pages i 0) (take i pages)) (λ t. t) (λ t. absurd (z (count-absent (getD pages i 0) (take i pages) t))))
 
 pub fresh-all : (mask : ℕ) (marks pages : List ℕ) (i : ℕ) → length pages ≤ i → Fresh mask marks pages i → distinct pages ≡ true
 fresh-all mask marks pages i h f = rw (take-all i pages h) at (f .once)
