@@ -1,0 +1,16 @@
+use mathlib.Core.Path.{_∙_, ap}
+use mir.Syntax.{w64}
+use mir.Facts.{toZ-ofZ}
+use Rattle.layers.specs.declared.LayersReply.{LayersReply}
+use Rattle.exports.specs.Signed.{signed}
+use borrow.Author.Needs.{needs}
+use Rattle.exports.proofs.requests.layers_request.Statement.{statement}
+use Rattle.exports.proofs.requests.layers_request.Tie as tie
+
+returns : tie.Need-returns
+returns c = (toZ-ofZ {w = w64} (record { sfits = c .number .ok }) ∙ (c .number .ensures ∙ ap (λ (x : LayersReply). signed (x .refusal) (x .run .s)) (c .before .before .before .before .before .before .before .request .ensures .0)), c .before .before .before .before .before .before .before .request .ensures .1, c .before .before .before .before .before .before .before .request .ensures .2)
+
+pub layers-request-spec : {M : Type 1} → statement M
+layers-request-spec =
+    tie.close
+    (tie.spec (λ c κs. search needs) (λ c. search needs) (λ c κs. search needs) (λ c. search needs) (λ c. search needs) returns)

@@ -1,0 +1,14 @@
+use mathlib.Core.Path.{_∙_, ap}
+use mir.Syntax.{w64}
+use mir.Facts.{toZ-ofZ}
+use Rattle.lru.specs.declared.Totals.{Totals}
+use Rattle.exports.specs.Signed.{signed}
+use borrow.Author.Needs.{needs}
+use Rattle.exports.proofs.traces.lru_bundles.Statement.{statement}
+use Rattle.exports.proofs.traces.lru_bundles.Tie as tie
+
+returns : tie.Need-returns
+returns c = toZ-ofZ {w = w64} (record { sfits = c .number .ok }) ∙ (c .number .ensures ∙ ap (λ (x : Totals). signed (x .refusal) (x .bundles)) (c .before .before .over-trace .ensures))
+
+pub lru-bundles-spec : {M : Type 1} → statement M
+lru-bundles-spec = tie.close (tie.spec (λ c κs. search needs) (λ c. search needs) (λ c κs. search needs) returns)

@@ -1,0 +1,12 @@
+-- The records whose fields a caller hands over one by one.
+use Prim.Native.Nat.{ℕ}
+use Rattle.lru.specs.declared.Run.{Run}
+use Rattle.layers.specs.declared.LayersRun.{LayersRun}
+
+abbrev pub lruRun : (k a requests loads evictions : ℕ) → Run
+lruRun k a requests loads evictions =
+    record { k = k; a = a; requests = requests; loads = loads; evictions = evictions }
+
+abbrev pub layersRun : (k a requests evictions s : ℕ) → LayersRun
+layersRun k a requests evictions s =
+    record { k = k; a = a; requests = requests; evictions = evictions; s = s }
