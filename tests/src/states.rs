@@ -1,9 +1,10 @@
 //! States for single requests: well formed ones, drawn, and small changes to them.
 
-use crate::model::layers::{self, Record as LayersRecord};
+use crate::model::layers::{self, Layers, Record as LayersRecord};
 use crate::model::lru::Record as LruRecord;
 use crate::rng::Rng;
-use crate::traces::{any, any_sizes};
+use crate::traces::{any, any_sizes, scattered};
+use std::collections::BTreeSet;
 
 /// An LRU request's whole input.
 #[derive(Clone, Debug)]
@@ -154,4 +155,30 @@ pub fn layers_call(rng: &mut Rng) -> LayersCall {
         disturb_layers(&mut call, rng);
     }
     call
+}
+
+/// Pages with equal low halves, as far as they go.
+fn in_high_half(name: usize) -> u32 {
+    (name as u32).rotate_left(16)
+}
+
+/// A table with many pages in layers 1 to k-a and single ones above them. In every second one a page
+/// stands in two layers.
+pub fn wide_layers_call(used: usize, rng: &mut Rng) -> LayersCall {
+    let k = rng.between(2, 9);
+    let a = rng.between(1, k - 1);
+    let name: fn(usize) -> u32 = rng.pick(&[scattered as fn(usize) -> u32, in_high_half, |name| name as u32]);
+    let mut layers: Layers = (0..k).map(|layer| BTreeSet::from([name(layer)])).collect();
+    for page in k..used {
+        layers[rng.below(k - a)].insert(name(page));
+    }
+    if rng.once_in(2) {
+        let twice = name(rng.below(used));
+        layers[rng.below(k - a)].insert(twice);
+    }
+    let places = layers.iter().map(|layer| layer.len()).sum::<usize>() + rng.below(2);
+    let (mut pages, mut numbers) = (vec![0; places], vec![0; places]);
+    layers::write_table(&layers, &mut pages, &mut numbers);
+    let record = LayersRecord { k: k as u32, a: a as u32, requests: 70_000, evictions: 9, s: k as u32 };
+    LayersCall { record, pages, numbers, page: name(rng.below(used + used / 4)) }
 }

@@ -6,7 +6,7 @@ use bench_tests::exported::exports;
 use bench_tests::model::{layers, lru, min, signed, TRACE_MAX};
 use bench_tests::report::{all_reached, differs, hex, tally_text};
 use bench_tests::rng::Rng;
-use bench_tests::states::{layers_call, lru_call, LayersCall, LruCall};
+use bench_tests::states::{layers_call, lru_call, wide_layers_call, LayersCall, LruCall};
 use bench_tests::traces::{any, any_sizes, of_kind, scattered, sizes, KINDS};
 use std::fmt::Debug;
 
@@ -178,11 +178,25 @@ fn lru_requests(rng: &mut Rng) {
     println!("lru_request: {} single requests and {} in lists agree ({})", SINGLE, listed, refusals);
 }
 
+/// Requests on wide tables, around each length at which the look for repeated pages changes its way.
+fn wide_layers_requests(rng: &mut Rng, tally: &mut Tally) -> usize {
+    let mut requests = 0;
+    for (around, times) in [(256, 2_000), (4_096, 200), (65_536, 20)] {
+        for _ in 0..times {
+            let used = around - 3 + rng.below(7);
+            layers_both(&mut wide_layers_call(used, rng), tally);
+            requests += 1;
+        }
+    }
+    requests
+}
+
 fn layers_requests(rng: &mut Rng) {
     let mut tally = [0; 21];
     for _ in 0..SINGLE {
         layers_both(&mut layers_call(rng), &mut tally);
     }
+    println!("layers_request: {} requests on wide tables agree", wide_layers_requests(rng, &mut tally));
     let listed: usize = (0..LISTS).map(|_| layers_list(rng, &mut tally)).sum();
     all_reached("layers_request", &[0, 1, 2, 8, 9, 10, 12], &tally);
     let refusals = tally_text(&"refusals", &tally);
