@@ -37,15 +37,22 @@ pub fn times(pages: &[u32], page: u32) -> usize
     n
 }
 
-// Whether no page stands in the list twice. A short list is looked through with marks, a longer one with chains, so that the time grows with the
-// length alone unless the pages are chosen against `slots`; a list beyond all limits of document 01 is looked through with marks again.
+// Whether no page stands in the list twice, for a list of a buffer's size: for any list, and quick for some hundred pages.
+pub fn no_page_twice_in_buffer(pages: &[u32]) -> bool
+    ensures { λ r. ⌜ r ≡ distinct (now (pages .entry)) ⌝ }
+{
+    let mut marks = [0u8; 8192];
+    marks::new_pages_only(pages, &mut marks, 8191)
+}
+
+// The same for a list of any size. A short one is looked through with marks, a longer one with chains, so that the time grows with the
+// length alone unless the pages are chosen against `slots`; one beyond all limits of document 01 is looked through with marks again.
 pub fn no_page_twice(pages: &[u32]) -> bool
     ensures { λ r. ⌜ r ≡ distinct (now (pages .entry)) ⌝ }
 {
     let n = pages.len();
     if n <= 256 {
-        let mut marks = [0u8; 8192];
-        return marks::new_pages_only(pages, &mut marks, 8191);
+        return no_page_twice_in_buffer(pages);
     }
     if n <= 4096 {
         return chains::no_page_twice_of_4096(pages);

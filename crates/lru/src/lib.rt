@@ -88,7 +88,7 @@ fn refusal(run: Run, count: u32, cache: &[u32], evicted: &[u32]) -> u32
     if run.loads > run.requests {
         return 9;
     }
-    if lists::no_page_twice(&cache[..count as usize]) {
+    if lists::no_page_twice_in_buffer(&cache[..count as usize]) {
         if run.requests == Run::COUNTER_MAX {
             return 12;
         }

@@ -37,23 +37,23 @@ returns-6 c =
     let s = c .before .before .before .before .before .before .before .before .before .before .before in
     number-ill (s .args .run) (s .args .count) (s .args .cache .now) (s .args .evicted .now) _ (c .before .before .before .before .before .before .before .before .refusal .ensures) (c .before .before .before .before .before .before .before .if1 .left) (c .before .before .before .before .before .before .if2 .left) (c .before .before .before .before .before .if3 .left) (ill-loads _ _ _ (s .args .evicted .now) (c .if6 .taken))
 
-slice-aggregate-no-page-twice : tie.Need-slice-aggregate-no-page-twice
-slice-aggregate-no-page-twice c = simp length-take (omega arith)
+slice-aggregate-no-page-twice-in-buffer : tie.Need-slice-aggregate-no-page-twice-in-buffer
+slice-aggregate-no-page-twice-in-buffer c = simp length-take (omega arith)
 
 returns-7 : tie.Need-returns-7
 returns-7 c =
     let s = c .before .before .before .before .before .before .before .before .before .before .before .before .before .before .before .before in
-    number-last (s .args .run) (s .args .count) (s .args .cache .now) (s .args .evicted .now) _ (c .before .before .before .before .before .before .before .before .before .before .before .before .before .refusal .ensures) (c .before .before .before .before .before .before .before .before .before .before .before .before .if1 .left) (c .before .before .before .before .before .before .before .before .before .before .before .if2 .left) (c .before .before .before .before .before .before .before .before .before .before .if3 .left) (well _ _ _ (s .args .evicted .now) (c .before .before .before .before .before .before .before .before .before .if4 .left) (c .before .before .before .before .before .before .before .if5 .left) (c .before .before .before .before .before .if6 .left) (sym (c .before .before .before .no-page-twice .ensures) ∙ c .before .before .if7 .taken)) (c .if8 .taken)
+    number-last (s .args .run) (s .args .count) (s .args .cache .now) (s .args .evicted .now) _ (c .before .before .before .before .before .before .before .before .before .before .before .before .before .refusal .ensures) (c .before .before .before .before .before .before .before .before .before .before .before .before .if1 .left) (c .before .before .before .before .before .before .before .before .before .before .before .if2 .left) (c .before .before .before .before .before .before .before .before .before .before .if3 .left) (well _ _ _ (s .args .evicted .now) (c .before .before .before .before .before .before .before .before .before .if4 .left) (c .before .before .before .before .before .before .before .if5 .left) (c .before .before .before .before .before .if6 .left) (sym (c .before .before .before .no-page-twice-in-buffer .ensures) ∙ c .before .before .if7 .taken)) (c .if8 .taken)
 
 returns-8 : tie.Need-returns-8
 returns-8 c =
     let s = c .before .before .before .before .before .before .before .before .before .before .before .before .before .before .before .before in
-    number-none (s .args .run) (s .args .count) (s .args .cache .now) (s .args .evicted .now) _ (c .before .before .before .before .before .before .before .before .before .before .before .before .before .refusal .ensures) (c .before .before .before .before .before .before .before .before .before .before .before .before .if1 .left) (c .before .before .before .before .before .before .before .before .before .before .before .if2 .left) (c .before .before .before .before .before .before .before .before .before .before .if3 .left) (well _ _ _ (s .args .evicted .now) (c .before .before .before .before .before .before .before .before .before .if4 .left) (c .before .before .before .before .before .before .before .if5 .left) (c .before .before .before .before .before .if6 .left) (sym (c .before .before .before .no-page-twice .ensures) ∙ c .before .before .if7 .taken)) (c .if8 .left)
+    number-none (s .args .run) (s .args .count) (s .args .cache .now) (s .args .evicted .now) _ (c .before .before .before .before .before .before .before .before .before .before .before .before .before .refusal .ensures) (c .before .before .before .before .before .before .before .before .before .before .before .before .if1 .left) (c .before .before .before .before .before .before .before .before .before .before .before .if2 .left) (c .before .before .before .before .before .before .before .before .before .before .if3 .left) (well _ _ _ (s .args .evicted .now) (c .before .before .before .before .before .before .before .before .before .if4 .left) (c .before .before .before .before .before .before .before .if5 .left) (c .before .before .before .before .before .if6 .left) (sym (c .before .before .before .no-page-twice-in-buffer .ensures) ∙ c .before .before .if7 .taken)) (c .if8 .left)
 
 returns-9 : tie.Need-returns-9
 returns-9 c =
     let s = c .before .before .before .before .before .before .before .before .before .before .before .before .before .before in
-    number-ill (s .args .run) (s .args .count) (s .args .cache .now) (s .args .evicted .now) _ (c .before .before .before .before .before .before .before .before .before .before .before .refusal .ensures) (c .before .before .before .before .before .before .before .before .before .before .if1 .left) (c .before .before .before .before .before .before .before .before .before .if2 .left) (c .before .before .before .before .before .before .before .before .if3 .left) (ill-twice _ _ _ (s .args .evicted .now) (sym (c .before .no-page-twice .ensures) ∙ c .if7 .left))
+    number-ill (s .args .run) (s .args .count) (s .args .cache .now) (s .args .evicted .now) _ (c .before .before .before .before .before .before .before .before .before .before .before .refusal .ensures) (c .before .before .before .before .before .before .before .before .before .before .if1 .left) (c .before .before .before .before .before .before .before .before .before .if2 .left) (c .before .before .before .before .before .before .before .before .if3 .left) (ill-twice _ _ _ (s .args .evicted .now) (sym (c .before .no-page-twice-in-buffer .ensures) ∙ c .if7 .left))
 
 pub refusal-spec : {M : Type 1} → statement M
 refusal-spec =
@@ -68,7 +68,7 @@ refusal-spec =
     returns-4
     returns-5
     returns-6
-    slice-aggregate-no-page-twice
+    slice-aggregate-no-page-twice-in-buffer
     (λ c κs. search needs)
     returns-7
     returns-8
