@@ -27,7 +27,8 @@ pub extern "C" fn min_loads(k: u32, a: u32, trace: &[u32]) -> i64
 // The length of the schedule that farthest next use writes into the lent bytes.
 #[no_mangle]
 pub extern "C" fn min_schedule(k: u32, a: u32, trace: &[u32], out: &mut [u8]) -> i64
-    ensures { λ r. ⌜ (r ≡ signed (scheduledOf k a (now (trace .entry)) (now (out .entry)) .refusal) (scheduledOf k a (now (trace .entry)) (now (out .entry)) .length))
+    ensures { λ r. ⌜ (r ≡ signed (scheduledOf k a (now (trace .entry)) (now (out .entry)) .refusal)
+        (scheduledOf k a (now (trace .entry)) (now (out .entry)) .length))
         × (now (out .exit) ≡ bytesOf k a (now (trace .entry)) (now (out .entry))) ⌝ }
 {
     let written = min::schedule(k, a, trace, out);
