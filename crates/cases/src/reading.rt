@@ -1,16 +1,16 @@
 // The readers of records: offsets, ends, marks and an EV's n.
 use crate::show;
+use readers::schedule::schedule_at;
+use readers::trace::trace_at;
 use records::read::ScheduleRecord;
 use records::read::TraceRecord;
-use records::read::schedule as schedule_record;
-use records::read::trace as trace_record;
 
 // A record of a trace, with the offset behind it.
 fn trace(label: &[u8], file: &[u8], at: usize) {
     show::text(b"trace reader, ");
     show::text(label);
     show::text(b":");
-    let found = trace_record(file, at);
+    let found = trace_at(file, at);
     match found {
         TraceRecord::Sizes { k, a, next } => {
             show::text(b" KA");
@@ -33,7 +33,7 @@ fn schedule(label: &[u8], file: &[u8], at: usize) {
     show::text(b"schedule reader, ");
     show::text(label);
     show::text(b":");
-    let found = schedule_record(file, at);
+    let found = schedule_at(file, at);
     match found {
         ScheduleRecord::Sizes { k, a, next } => {
             show::text(b" KA");
