@@ -4,20 +4,20 @@ use native.Mathlib.Nat.{zero-add, add-zero, suc-add, add-suc}
 use native.Mathlib.Numerals.{add-one}
 use native.Mathlib.Omega.{arith}
 use mathlib.Core.Path.{_≡_, refl, sym, ap, _∙_}
-use mathlib.Core.Bool.{Bool, true, false, not}
+use mathlib.Core.Bool.{Bool, true, false, not, _||_}
 use mathlib.Core.List.{List, [], _∷_, _++_, append-assoc, append-nil}
 use lib.Dec.{eqb, ltb, leb·suc-suc}
 use lib.Bits.{and-le-r}
 use mir.Val.{boolByte}
 use lib.ListN.{length, take, drop, getD, set, replicate, length-append, length-take, length-drop, length-replicate, getD-replicate, drop-of-length-le, take-append-drop}
-use lib.Seq.{drop-cons, take-suc, take-all, length-take-le, getD-set-same, getD-set-other, set-at, take-at, drop-at, getD-append-add, getD-drop}
+use lib.Seq.{drop-drop, drop-cons, take-suc, take-all, length-take-le, getD-set-same, getD-set-other, set-at, take-at, drop-at, getD-append-add, getD-drop}
 use borrow.Author.Tests.{eq-eqb, ne-eqb, eqb-true, eqb-false, lt-ltb, le-ltb, not-true}
 use Rattle.lists.specs.Choice.{pick, _and_, _or_}
 use Rattle.lists.specs.Pages.{mem, distinct, toEnd, erase, eraseAll, bit, count}
 use Rattle.lists.specs.Places.{place, movedToEnd, firstDropped, pasted}
 use Rattle.lists.specs.Slots.{slotOf}
 use Rattle.lists.proofs.Choice.{cases, split, clash, and-l, and-r, and-false-r, or-split, eqb-self, eqb-sym}
-use Rattle.lists.proofs.Pages.{count-snoc, count-some, count-absent, without-absent}
+use Rattle.lists.proofs.Pages.{count-snoc, without-absent}
 
 -- The first place of a page
 
@@ -44,7 +44,38 @@ mem-place p (x ∷ xs) =
     (λ e. rw e (sym (lt-ltb 0 (suc (length xs)) (omega arith))))
     (λ e. rw e (mem-place p xs ∙ sym (leb·suc-suc (suc (place p xs)) (length xs))))
 
--- How often a page stands in a list
+pub mem-append : (p : ℕ) (xs ys : List ℕ) → mem p (xs ++ ys) ≡ mem p xs or mem p ys
+unfolding _or_
+mem-append p [] ys = refl
+mem-append p (x ∷ xs) ys = cases (eqb p x) (λ e. rw e refl) (λ e. rw e (mem-append p xs ys))
+
+-- a part without the page is passed over
+place-behind : (p : ℕ) (ys zs : List ℕ) → mem p ys ≡ false → place p (ys ++ zs) ≡ length ys + place p zs
+unfolding _or_
+place-behind p [] zs e = omega arith
+place-behind p (y ∷ ys) zs e =
+    cases (eqb p y)
+    (λ s. clash true refl (rw s at e))
+    (λ s. let e′ : mem p ys ≡ false = rw s at e in rw (s, place-behind p ys zs e′) (omega arith))
+
+pub part-passed : (p i n : ℕ) (xs : List ℕ) → i + n ≤ length xs → mem p (take n (drop i xs)) ≡ false
+    → i + place p (drop i xs) ≡ i + n + place p (drop (i + n) xs)
+part-passed p i n xs h e =
+    let l : length (take n (drop i xs)) ≡ n = length-take-le n (drop i xs) (rw (length-drop i xs) (omega arith)) in
+    let d : drop n (drop i xs) ≡ drop (i + n) xs = drop-drop n i xs in
+    let q : place p (drop i xs) ≡ n + place p (drop (i + n) xs) =
+    ap (place p) (sym (take-append-drop n (drop i xs))) ∙ place-behind p (take n (drop i xs)) (drop n (drop i xs)) e ∙ rw (l, d) refl in
+    omega arith
+
+-- Whether and how often a page stands in a list
+
+pub has-turn : (p i : ℕ) (found : Bool) (xs : List ℕ) → i < length xs → found ≡ mem p (take i xs)
+    → found || eqb (getD xs i 0) p ≡ mem p (take (i + 1) xs)
+unfolding _or_
+has-turn p i found xs h e =
+    rw (add-one i, take-suc xs i 0 h, mem-append p (take i xs) (getD xs i 0 ∷ []), e, eqb-sym (getD xs i 0) p)
+    (cases (mem p (take i xs)) (λ m. rw m refl)
+    (λ m. rw m (cases (eqb p (getD xs i 0)) (λ s. rw s refl) (λ s. rw s refl))))
 
 pub byte-one : (b : Bool) → boolByte b ≤ 1
 byte-one true = omega arith
@@ -60,11 +91,6 @@ times-turn p n i xs h e =
     rw (add-one i, take-suc xs i 0 h, count-snoc (eqb p) (take i xs) (getD xs i 0), e, byte-bit (eqb (getD xs i 0) p), eqb-sym (getD xs i 0) p) refl
 
 -- A list that grows at its end
-
-pub mem-append : (p : ℕ) (xs ys : List ℕ) → mem p (xs ++ ys) ≡ mem p xs or mem p ys
-unfolding _or_
-mem-append p [] ys = refl
-mem-append p (x ∷ xs) ys = cases (eqb p x) (λ e. rw e refl) (λ e. rw e (mem-append p xs ys))
 
 pub distinct-snoc : (xs : List ℕ) (y : ℕ) → distinct (xs ++ (y ∷ [])) ≡ distinct xs and not (mem y xs)
 unfolding _and_ _or_
@@ -139,19 +165,8 @@ module _ (mask : ℕ) (marks pages : List ℕ) (i : ℕ) (h : i < length pages) 
         (fresh-more m (cases (mem p (take i pages)) (λ t. let one = f .marked p t in absurd (omega arith)) (λ t. t)) f)
 
     -- so does an exact look
-    pub fresh-looked : count (eqb (getD pages i 0)) (take i pages) ≡ 0 → Fresh mask (set marks at 1) pages (i + 1)
-    fresh-looked z =
-        let p = getD pages i 0 in
-        rw a
-        (fresh-more m
-        (cases (mem p (take i pages)) (λ t. let one = count-some (eqb p) p (take i pages) t (eqb-self p) in absurd (omega arith)) (λ t. t))
-        f)
-
-  -- or it finds the page
-  pub twice-found : (count (eqb (getD pages i 0)) (take i pages) ≡ 0 → ⊥) → distinct pages ≡ false
-  twice-found z =
-      twice-at pages i h
-      (cases (mem (getD pages i 0) (take i pages)) (λ t. t) (λ t. absurd (z (count-absent (getD pages i 0) (take i pages) t))))
+    pub fresh-looked : mem (getD pages i 0) (take i pages) ≡ false → Fresh mask (set marks at 1) pages (i + 1)
+    fresh-looked z = rw a (fresh-more m z f)
 
 pub fresh-all : (mask : ℕ) (marks pages : List ℕ) (i : ℕ) → length pages ≤ i → Fresh mask marks pages i → distinct pages ≡ true
 fresh-all mask marks pages i h f = rw (take-all i pages h) at (f .once)

@@ -1,8 +1,10 @@
 // Lists of pages: the vocabulary that the code and the theory share is in specs/, here are questions on
 // lent lists, and in moves.rt what changes them.
 ghost use mathlib.Core.Path.{_≡_};
+ghost use Prim.Native.Nat.{_+_, _≤_};
+ghost use lib.ListN.{length, drop};
 ghost use lib.Dec.{eqb};
-ghost use Rattle.lists.specs.Pages.{count, distinct};
+ghost use Rattle.lists.specs.Pages.{count, distinct, mem};
 ghost use Rattle.lists.specs.Places.{place};
 
 mod chains;
@@ -10,11 +12,24 @@ mod marks;
 pub mod moves;
 mod slots;
 
-// The first place of the page, or the length where it is not in the list.
+// Whether the page stands in the list. The whole list is looked at, eight places or more at once, which is quicker than to stop early.
+pub fn has(pages: &[u32], page: u32) -> bool
+    ensures { λ r. ⌜ r ≡ mem page (now (pages .entry)) ⌝ }
+{
+    let mut found = false;
+    let mut i = 0;
+    while i < pages.len() {
+        found = found | (pages[i] == page);
+        i += 1;
+    }
+    found
+}
+
+// The first place of the page, or the length where it is not in the list. Parts of 32 places that do not have it are passed over.
 pub fn find(pages: &[u32], page: u32) -> usize
     ensures { λ r. ⌜ r ≡ place page (now (pages .entry)) ⌝ }
 {
-    let mut i = 0;
+    let mut i = parts_without(pages, page);
     while i < pages.len() {
         if pages[i] == page {
             return i;
@@ -22,6 +37,22 @@ pub fn find(pages: &[u32], page: u32) -> usize
         i += 1;
     }
     i
+}
+
+// How many places at the start, 32 by 32, do not have the page.
+fn parts_without(pages: &[u32], page: u32) -> usize
+    ensures { λ r. ⌜ (r ≤ length (now (pages .entry))) × (place page (now (pages .entry)) ≡ r + place page (drop r (now (pages .entry)))) ⌝ }
+{
+    let mut passed = 0;
+    let mut parts = pages.len() / 32;
+    while parts > 0 {
+        parts -= 1;
+        if has(&pages[passed..passed + 32], page) {
+            return passed;
+        }
+        passed += 32;
+    }
+    passed
 }
 
 // How often the page stands in the list. The whole list is looked at, which is quicker than to stop early.

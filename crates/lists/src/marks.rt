@@ -3,8 +3,8 @@ ghost use mathlib.Core.Path.{_≡_};
 ghost use Prim.Native.Nat.{_<_};
 ghost use lib.ListN.{length};
 ghost use Rattle.lists.specs.Pages.{distinct};
+use crate::has;
 use crate::slots::slot;
-use crate::times;
 
 // Whether no page stands in the list twice: only where a page's mark is set already, an exact look at the earlier places decides.
 pub(crate) fn new_pages_only(pages: &[u32], marks: &mut [u8], mask: usize) -> bool
@@ -20,7 +20,7 @@ pub(crate) fn new_pages_only(pages: &[u32], marks: &mut [u8], mask: usize) -> bo
         marks[at] = 1;
         next += 1;
         if mark != 0 {
-            if times(&pages[..i], page) != 0 {
+            if has(&pages[..i], page) {
                 return false;
             }
         }

@@ -3,7 +3,7 @@ use Prim.Native.Nat.{_≤_, _-_}
 use native.Mathlib.Omega.{arith}
 use mathlib.Core.Path.{_≡_, refl, sym, _∙_}
 use lib.ListN.{length, take, getD, length-set, length-take}
-use Rattle.lists.proofs.Leaves.{Fresh, fresh-none, fresh-unmarked, fresh-looked, twice-found, fresh-all, slot-le}
+use Rattle.lists.proofs.Leaves.{Fresh, fresh-none, fresh-unmarked, fresh-looked, twice-at, fresh-all, slot-le}
 use borrow.Author.Needs.{needs}
 use Rattle.lists.proofs.marks.new_pages_only.Statement.{statement}
 use Rattle.lists.proofs.marks.new_pages_only.Tie as tie
@@ -29,14 +29,14 @@ slice-write-marks c =
     let at = c .before .before .before .before .loop in
     omega (arith, c .before .slot .ensures, slot-le (s .args .mask) (getD (s .args .pages .now) (at .next) 0))
 
-slice-aggregate-times : tie.Need-slice-aggregate-times Inv-loop μ-loop
-slice-aggregate-times c = simp length-take (omega arith)
+slice-aggregate-has : tie.Need-slice-aggregate-has Inv-loop μ-loop
+slice-aggregate-has c = simp length-take (omega arith)
 
 returns : tie.Need-returns Inv-loop μ-loop
 returns c =
     let s = c .before .before .before .before .before .before .before .before .before .before .before in
     let at = c .before .before .before .before .before .before .before .before .loop in
-    sym (twice-found (s .args .mask) (at .marks) (s .args .pages .now) (at .next) (c .before .before .before .before .before .before .before .loop-test .taken) (λ e. c .if2 .taken (c .before .times .ensures ∙ e)))
+    sym (twice-at (s .args .pages .now) (at .next) (c .before .before .before .before .before .before .before .loop-test .taken) (sym (c .before .has .ensures) ∙ c .if2 .taken))
 
 loop-again : tie.Need-loop-again Inv-loop μ-loop
 loop-again c =
@@ -45,7 +45,7 @@ loop-again c =
       omega arith,
       (
         simp length-set (omega arith),
-        fresh-looked (s .args .mask) (at .marks) (s .args .pages .now) (at .next) (c .before .before .before .before .before .before .before .loop-test .taken) (c .before .before .before .before .before .slot .result) (c .before .before .before .before .before .slot .ensures) (omega arith) (at .inv .1 .1) (sym (c .before .times .ensures) ∙ c .if2 .left),
+        fresh-looked (s .args .mask) (at .marks) (s .args .pages .now) (at .next) (c .before .before .before .before .before .before .before .loop-test .taken) (c .before .before .before .before .before .slot .result) (c .before .before .before .before .before .slot .ensures) (omega arith) (at .inv .1 .1) (sym (c .before .has .ensures) ∙ c .if2 .left),
       ),
     )
 
@@ -76,7 +76,7 @@ new-pages-only-spec =
     slice-read-mark
     slice-write-marks
     (λ c. search needs)
-    slice-aggregate-times
+    slice-aggregate-has
     (λ c κs. search needs)
     (λ c. search needs)
     returns

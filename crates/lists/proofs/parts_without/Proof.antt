@@ -1,0 +1,56 @@
+-- `lists::parts_without` meets its contract: the places passed do not have the page.
+use Prim.Native.Nat.{ℕ, _+_, _-_, _*_, _≤_}
+use native.Mathlib.Omega.{arith}
+use mathlib.Core.Path.{_≡_, sym, ap, _∙_}
+use mathlib.Core.Bool.{false}
+use lib.ListN.{length, take, drop}
+use Rattle.lists.specs.Pages.{mem}
+use Rattle.lists.specs.Places.{place}
+use Rattle.lists.proofs.Leaves.{part-passed}
+use borrow.Author.Needs.{needs}
+use Rattle.lists.proofs.parts_without.Statement.{statement}
+use Rattle.lists.proofs.parts_without.Tie as tie
+
+abbrev Inv-loop : tie.InvT-loop
+Inv-loop pages page passed₀ parts₀ passed parts = (passed + 32 * parts ≤ length pages) × (place page pages ≡ passed + place page (drop passed pages))
+
+abbrev μ-loop : tie.MeasureT-loop
+μ-loop pages page passed₀ parts₀ passed parts = parts
+
+loop-holds : tie.Need-loop-holds Inv-loop μ-loop
+loop-holds c = (omega arith, omega arith)
+
+returns : tie.Need-returns Inv-loop μ-loop
+returns c = (omega arith, c .before .before .before .before .loop .inv .1)
+
+loop-again : tie.Need-loop-again Inv-loop μ-loop
+loop-again c =
+    let s = c .before .before .before .before .before .before in
+    let at = c .before .before .before .before .loop in
+    let n : at .passed + 32 - at .passed ≡ 32 = omega arith in
+    let e : mem (s .args .page) (take 32 (drop (at .passed) (s .args .pages .now))) ≡ false =
+    ap (λ (x : ℕ). mem (s .args .page) (take x (drop (at .passed) (s .args .pages .now)))) (sym n) ∙ sym (c .before .has .ensures) ∙ c .if1 .left in
+    (omega arith, at .inv .1 ∙ part-passed (s .args .page) (at .passed) 32 (s .args .pages .now) (omega arith) e)
+
+returns-2 : tie.Need-returns-2 Inv-loop μ-loop
+returns-2 c = (omega arith, c .before .loop .inv .1)
+
+pub parts-without-spec : {M : Type 1} → statement M
+parts-without-spec =
+    tie.close
+    (tie.spec
+    Inv-loop
+    μ-loop
+    loop-holds
+    (λ c. search needs)
+    (λ c. search needs)
+    (λ c. search needs)
+    (λ c. search needs)
+    (λ c. search needs)
+    (λ c. search needs)
+    (λ c κs. search needs)
+    returns
+    (λ c. search needs)
+    (λ c. search needs)
+    loop-again
+    returns-2)
