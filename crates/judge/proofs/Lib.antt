@@ -2,8 +2,10 @@ pub mod Order
 pub mod Exact
 pub mod BufferLaws
 pub mod FetchLaws
+pub mod MarkLaws
 pub mod ClosingLaws
 pub mod EntryLaws
+pub mod ManyLaws
 pub mod ReadLaws
 pub mod RunLaws
 pub mod FileLaws

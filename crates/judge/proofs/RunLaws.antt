@@ -23,6 +23,7 @@ use Rattle.judge.specs.Fetches.{fetchedPages}
 use Rattle.judge.specs.Judging.{Standing, Closed, closed, overfull, closing, stepped, ended, finished, judgedFrom}
 use Rattle.judge.specs.Places.{standing, Sound, SoundAt, SoundStep, stepOf, closingOf}
 use Rattle.judge.specs.Verdicts.{placeAnswer, turnOf, turnAnswer, SoundTurn, Onward, verdictAnswer, AtMost}
+use Rattle.judge.specs.Many.{MoreStep, ReadOnStep}
 use Rattle.judge.specs.declared.run.Turn.{Turn}
 use Rattle.judge.specs.declared.run.Turn.the-variants as turn
 use Rattle.judge.specs.declared.run.Verdict.{Verdict}
@@ -31,6 +32,7 @@ use Rattle.judge.specs.declared.entries.Step as steps
 use Rattle.judge.specs.declared.entries.Step.the-variants.{On, Stop}
 use Rattle.judge.specs.declared.closing.Closing as closings
 use Rattle.judge.specs.declared.closing.Closing.the-variants.{Open, Overfull}
+use Rattle.judge.proofs.ManyLaws.{stepped-more, more-sound}
 
 -- The end
 
@@ -60,6 +62,16 @@ module _ (k requests : ℕ) (trace schedule held : List ℕ) (p : Place) (f : So
       left-closed at n e = rw (← all, e)
 
 -- One record
+
+-- a turn that leads on over more PFs
+more-turn : (k requests : ℕ) (trace schedule : List ℕ) (p q : Place) (y : steps.Step) → Onward k requests trace schedule p q → MoreStep schedule q y
+    → SoundTurn k requests trace schedule p (turnOf y)
+more-turn k requests trace schedule p q (On r) o m =
+    let from = ap (λ (x : Place). x .from) (m .same) in
+    let z = m .further in
+    let w = o .further in
+    record { sound = more-sound k requests trace schedule q r (o .sound) m; further = omega arith }
+more-turn k requests trace schedule p q (Stop number) o m = tt
 
 module _ (k a requests : ℕ) (trace schedule held : List ℕ) (p : Place) (f : Sound k requests trace schedule p) where
   abbrev here : ℕ
@@ -98,6 +110,16 @@ module _ (k a requests : ℕ) (trace schedule held : List ℕ) (p : Place) (f : 
       pf-turn =
           let w = rw (pf-fact .behind) at (entries-fetch a schedule here t page next pf-answers) in
           goes-on (pf t page) (here + 10) w (omega arith)
+
+      -- the same with the PFs that follow at its request
+      pub pfs-turn : (x y : steps.Step) (after : List ℕ) → stepOf trace schedule after x ≡ stepped k (pf t page) (standing trace schedule held p)
+          → SoundStep k requests trace schedule (here + 10) x → ReadOnStep a schedule after x y
+          → (turnAnswer k a trace schedule after (turnOf y) ≡ placeAnswer k a trace schedule held p) × SoundTurn k requests trace schedule p (turnOf y)
+      pfs-turn (On q) y after s d f =
+          let one = pf-turn (On q) after s d in
+          let some = stepped-more k t page (standing trace schedule held p) (standing trace schedule after q) s in
+          (f .answer k trace some ∙ one .0, more-turn k requests trace schedule p q y (one .1) (f .more))
+      pfs-turn (Stop number) y after s d f = rw f (pf-turn (Stop number) after s d)
 
     pub end-turn : (x : Answer) → r ≡ recorded.End → x ≡ ended k 0 (standing trace schedule held p) → x ≡ placeAnswer k a trace schedule held p
     end-turn x e w = rw (entries-ended a schedule here (sym q ∙ ap scheduleAnswer e)) w

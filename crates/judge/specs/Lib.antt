@@ -3,5 +3,7 @@ pub mod Judging
 pub mod Fetches
 pub mod Files
 pub mod LegalFiles
+pub mod Marks
 pub mod Places
 pub mod Verdicts
+pub mod Many

@@ -3,6 +3,8 @@
 //   fetches   the PFs of the open request, read off the schedule's file
 //   closing   closing requests, with a cursor into the trace
 //   entries   one record of the schedule: the way to its request, then what it does there
+//   many      more PFs at one request than a buffer holds
+//   marks     marks for pages, which rule pages out
 //   run       all records of the schedule
 //   files     both files, from their first bytes on
 ghost use mathlib.Core.Path.{_≡_};
@@ -14,6 +16,8 @@ mod closing;
 mod entries;
 mod fetches;
 mod files;
+mod many;
+mod marks;
 mod run;
 
 // The cost of the schedule, or the refusal's number made negative.

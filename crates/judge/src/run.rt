@@ -11,6 +11,7 @@ use crate::entries::Place;
 use crate::entries::Step;
 use crate::entries::bundle;
 use crate::entries::fetch;
+use crate::many::after;
 use records::read::ScheduleRecord;
 use records::read::schedule_within;
 
@@ -95,16 +96,10 @@ fn next_record(
             from,
             next,
         )),
-        ScheduleRecord::Fetch { t, page, next: _ } => turned(fetch(
-            trace,
-            schedule,
-            held,
-            k,
-            requests,
-            place,
-            t as usize,
-            page,
-        )),
+        ScheduleRecord::Fetch { t, page, next: _ } => {
+            let step = fetch(trace, schedule, held, k, requests, place, t as usize, page);
+            turned(after(schedule, held, a, step))
+        }
         ScheduleRecord::End => Turn::Done(finish(trace, schedule, held, k, requests, place)),
         ScheduleRecord::Refused(number) => Turn::Done(Verdict::Refused(number)),
         ScheduleRecord::Sizes {

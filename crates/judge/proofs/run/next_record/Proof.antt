@@ -1,6 +1,7 @@
+use Rattle.judge.proofs.ManyLaws.{sound-ready}
 use mathlib.Core.Path.{refl, sym, ap, _∙_}
 use native.Mathlib.Omega.{arith}
-use Rattle.judge.proofs.RunLaws.{ev-fact, ev-turn, pf-fact, pf-turn, end-turn, refused-turn, sizes-turn}
+use Rattle.judge.proofs.RunLaws.{ev-fact, ev-turn, pf-fact, pfs-turn, end-turn, refused-turn, sizes-turn}
 use borrow.Author.Needs.{needs}
 use Rattle.judge.proofs.run.next_record.Statement.{statement}
 use Rattle.judge.proofs.run.next_record.Tie as tie
@@ -17,6 +18,9 @@ bundle-requires c κs = let f = ev-fact (c .before .before .before .before .befo
 fetch-requires : tie.Need-fetch-requires
 fetch-requires c κs = let f = pf-fact (c .before .before .before .before .before .before .before .before .before .before .args .k) (c .before .before .before .before .before .before .before .before .before .before .args .a) (c .before .before .before .before .before .before .before .before .before .before .args .requests) (c .before .before .before .before .before .before .before .before .before .before .args .trace .now) (c .before .before .before .before .before .before .before .before .before .before .args .schedule .now) (c .before .before .before .before .before .before .before .before .before .before .args .held .now) (c .before .before .before .before .before .before .before .before .before .before .args .place) (c .before .before .before .before .before .before .before .before .before .before .pre .0) (c .before .before .before .before .schedule-within .result) (c .before .before .before .before .schedule-within .ensures) (c .before .before .t2 .given .0 .0) (c .before .before .t2 .given .0 .1 .0) (c .before .before .t2 .given .0 .1 .1 .0) (c .before .before .t2 .given .1) in let i = f .inside in (c .before .before .before .before .before .before .before .before .before .before .pre .0, omega arith, i, f .page-is)
 
+after-requires : tie.Need-after-requires
+after-requires c κs = let kept = c .before .before .before .fetch .kept .1 .1 .0 in sound-ready (c .before .before .before .before .before .before .before .before .before .before .before .before .before .before .args .k) (c .before .before .before .before .before .before .before .before .before .before .before .before .before .before .args .requests) _ (c .before .before .before .before .before .before .before .before .before .before .before .before .before .before .args .trace .now) (c .before .before .before .before .before .before .before .before .before .before .before .before .before .before .args .schedule .now) (c .before .before .before .fetch .last .1 .1 .0) (c .before .before .before .fetch .result) (c .before .before .before .fetch .ensures .1) (omega arith)
+
 finish-requires : tie.Need-finish-requires
 finish-requires c κs = (c .before .before .before .before .before .before .before .before .before .pre .0, omega arith)
 
@@ -24,7 +28,7 @@ returns : tie.Need-returns
 returns c = rw (c .turned .ensures) (ev-turn (c .before .before .before .before .before .before .before .before .before .before .before .before .before .before .args .k) (c .before .before .before .before .before .before .before .before .before .before .before .before .before .before .args .a) (c .before .before .before .before .before .before .before .before .before .before .before .before .before .before .args .requests) (c .before .before .before .before .before .before .before .before .before .before .before .before .before .before .args .trace .now) (c .before .before .before .before .before .before .before .before .before .before .before .before .before .before .args .schedule .now) (c .before .before .before .before .before .before .before .before .before .before .before .before .before .before .args .held .now) (c .before .before .before .before .before .before .before .before .before .before .before .before .before .before .args .place) (c .before .before .before .before .before .before .before .before .before .before .before .before .before .before .pre .0) (c .before .before .before .before .before .before .before .before .schedule-within .result) (c .before .before .before .before .before .before .before .before .schedule-within .ensures) (c .before .before .before .before .before .before .t .given .0 .0) (c .before .before .before .before .before .before .t .given .0 .1 .0) (c .before .before .before .before .before .before .t .given .0 .1 .1 .0) (c .before .before .before .before .before .before .t .given .0 .1 .1 .1 .0) (c .before .before .before .before .before .before .t .given .1) (c .before .before .before .bundle .result) (c .before .before .before .bundle .last .1 .1 .0) (c .before .before .before .bundle .ensures .0) (c .before .before .before .bundle .ensures .1))
 
 returns-2 : tie.Need-returns-2
-returns-2 c = rw (c .turned2 .ensures) (pf-turn (c .before .before .before .before .before .before .before .before .before .before .before .before .before .before .args .k) (c .before .before .before .before .before .before .before .before .before .before .before .before .before .before .args .a) (c .before .before .before .before .before .before .before .before .before .before .before .before .before .before .args .requests) (c .before .before .before .before .before .before .before .before .before .before .before .before .before .before .args .trace .now) (c .before .before .before .before .before .before .before .before .before .before .before .before .before .before .args .schedule .now) (c .before .before .before .before .before .before .before .before .before .before .before .before .before .before .args .held .now) (c .before .before .before .before .before .before .before .before .before .before .before .before .before .before .args .place) (c .before .before .before .before .before .before .before .before .before .before .before .before .before .before .pre .0) (c .before .before .before .before .before .before .before .before .schedule-within .result) (c .before .before .before .before .before .before .before .before .schedule-within .ensures) (c .before .before .before .before .before .before .t2 .given .0 .0) (c .before .before .before .before .before .before .t2 .given .0 .1 .0) (c .before .before .before .before .before .before .t2 .given .0 .1 .1 .0) (c .before .before .before .before .before .before .t2 .given .1) (c .before .before .before .fetch .result) (c .before .before .before .fetch .last .1 .1 .0) (c .before .before .before .fetch .ensures .0) (c .before .before .before .fetch .ensures .1))
+returns-2 c = rw (c .turned2 .ensures) (pfs-turn (c .before .before .before .before .before .before .before .before .before .before .before .before .before .before .before .before .args .k) (c .before .before .before .before .before .before .before .before .before .before .before .before .before .before .before .before .args .a) (c .before .before .before .before .before .before .before .before .before .before .before .before .before .before .before .before .args .requests) (c .before .before .before .before .before .before .before .before .before .before .before .before .before .before .before .before .args .trace .now) (c .before .before .before .before .before .before .before .before .before .before .before .before .before .before .before .before .args .schedule .now) (c .before .before .before .before .before .before .before .before .before .before .before .before .before .before .before .before .args .held .now) (c .before .before .before .before .before .before .before .before .before .before .before .before .before .before .before .before .args .place) (c .before .before .before .before .before .before .before .before .before .before .before .before .before .before .before .before .pre .0) (c .before .before .before .before .before .before .before .before .before .before .schedule-within .result) (c .before .before .before .before .before .before .before .before .before .before .schedule-within .ensures) (c .before .before .before .before .before .before .before .before .t2 .given .0 .0) (c .before .before .before .before .before .before .before .before .t2 .given .0 .1 .0) (c .before .before .before .before .before .before .before .before .t2 .given .0 .1 .1 .0) (c .before .before .before .before .before .before .before .before .t2 .given .1) (c .before .before .before .before .before .fetch .result) (c .before .after .result) (c .before .before .before .before .before .fetch .last .1 .1 .0) (c .before .before .before .before .before .fetch .ensures .0) (c .before .before .before .before .before .fetch .ensures .1) (c .before .after .ensures))
 
 returns-3 : tie.Need-returns-3
 returns-3 c = (end-turn (c .before .before .before .before .before .before .before .before .before .before .before .before .args .k) (c .before .before .before .before .before .before .before .before .before .before .before .before .args .a) (c .before .before .before .before .before .before .before .before .before .before .before .before .args .requests) (c .before .before .before .before .before .before .before .before .before .before .before .before .args .trace .now) (c .before .before .before .before .before .before .before .before .before .before .before .before .args .schedule .now) (c .before .before .before .before .before .before .before .before .before .before .before .before .args .held .now) (c .before .before .before .before .before .before .before .before .before .before .before .before .args .place) (c .before .before .before .before .before .before .before .before .before .before .before .before .pre .0) (c .before .before .before .before .before .before .schedule-within .result) (c .before .before .before .before .before .before .schedule-within .ensures) _ (c .before .before .before .before .enum-told .given .1) (c .before .before .finish .ensures .0), c .before .before .finish .ensures .1)
@@ -49,6 +53,7 @@ next-record-spec =
     (λ c. search needs)
     (λ c. search needs)
     fetch-requires
+    after-requires
     (λ c κs. search needs)
     (λ c. search needs)
     finish-requires
