@@ -154,6 +154,52 @@ fn many_fetches(judge: &mut Judge) {
     }
 }
 
+/// What can follow the PFs of request 2: nothing, a PF of it or of a later one, an EV of it or of a later
+/// one, a t that falls or is no request, and damage.
+fn ends_of_fetches() -> Vec<Vec<u8>> {
+    let last = pf(2, 90_000);
+    let entries = [pf(3, 5), pf(3, 90_000), ev(2, &[1]), ev(3, &[1]), pf(1, 90_000), ev(1, &[1]), pf(9, 5)];
+    let damage = [&b"P"[..], b"QQ", b"KA\0\x01\x01\0", b"EV\x02\0\0\0\0\0", &last[..9]].map(<[u8]>::to_vec);
+    [Vec::new(), last].into_iter().chain(entries).chain(damage).collect()
+}
+
+/// Pages for PFs: one behind the other, in high bits only, anywhere.
+fn fetched_pages(kind: usize, count: usize, rng: &mut Rng) -> Vec<u32> {
+    let page = |i: usize, any: u32| [10 + i as u32, (10 + i as u32) << 16 | 7, any][kind];
+    (0..count).map(|i| page(i, rng.word())).collect()
+}
+
+/// A schedule with these PFs at request 2, and this end.
+fn fetches(pages: &[u32], end: &[u8]) -> Vec<u8> {
+    let records = pages.iter().flat_map(|page| pf(2, *page));
+    ka(256, 1).into_iter().chain(records).chain(end.iter().copied()).collect()
+}
+
+/// Numbers of PFs at one request up to 256, the most pages of a buffer, and beyond: all pages apart with
+/// each kind of end, and one page that stands there before or is held.
+fn fetches_beyond_the_buffer(judge: &mut Judge, rng: &mut Rng) {
+    let trace = trace_file(256, 1, &[1, 2, 3, 4]);
+    for count in [60, 64, 70, 200, 253, 254, 255, 256, 257, 258, 300, 3_000] {
+        for kind in 0..3 {
+            let pages = fetched_pages(kind, count, rng);
+            for end in ends_of_fetches() {
+                judge.check("PFs beyond the buffer", &trace, &fetches(&pages, &end));
+            }
+            for from in [0, 1, 63, 255, 256] {
+                for to in [1, 64, 255, 256, 257, count - 1] {
+                    if from < to && to < count {
+                        let mut twice = pages.clone();
+                        twice[to] = pages[from];
+                        judge.check("a PF twice", &trace, &fetches(&twice, b"P"));
+                        twice[to] = 2;
+                        judge.check("a held page among PFs", &trace, &fetches(&twice, b"P"));
+                    }
+                }
+            }
+        }
+    }
+}
+
 fn main() {
     let mut judge = Judge::default();
     let mut rng = Rng::new(2);
@@ -163,6 +209,7 @@ fn main() {
     drawn(&mut judge, &mut rng);
     full_size(&mut judge, &mut rng);
     many_fetches(&mut judge);
+    fetches_beyond_the_buffer(&mut judge, &mut rng);
     all_reached("judge", &[0, 1, 2, 3, 4, 5, 6, 7], &judge.tally);
     println!("judge: {} pairs of files agree ({})", judge.pairs, tally_text(&"refusals", &judge.tally[..]));
 }
