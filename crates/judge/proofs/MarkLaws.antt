@@ -12,11 +12,11 @@ use lib.ListN.{length, getD, set, length-set}
 use lib.Pow.{pow-pos, shl-exact}
 use lib.Seq.{getD-set-same, getD-set-other}
 use borrow.Author.Tests.{lt-ltb, ltb-true, eqb-true, eqb-false}
-use Rattle.lists.specs.Choice.{_or_}
+use Rattle.lists.specs.Choice.{_and_, _or_}
 use Rattle.lists.specs.Pages.{mem}
-use Rattle.lists.proofs.Choice.{cases, clash}
+use Rattle.lists.proofs.Choice.{cases, clash, and-i, and-l, and-r}
 use Rattle.lists.proofs.Leaves.{mem-append}
-use Rattle.judge.specs.Marks.{words, slotOf, wordOf, bitOf, isMarked, withMark, AllMarked}
+use Rattle.judge.specs.Marks.{words, foldOf, productOf, bitOf, isSet, withBit, isMarked, withMark, AllMarked}
 
 -- Bits
 
@@ -47,64 +47,116 @@ there =
     let i = ih (x / 2) in
     omega arith)
 
--- The two numbers of a mark
+-- A page's bits
 
-pub slot-is : (page : ℕ) → (bitAnd (bitXor page (page / 512)) 8388607 ≡ slotOf page) × (bitAnd (bitXor page (page / 512)) 8388607 < 8388608)
-unfolding slotOf
-slot-is page = (refl, omega (arith, and-le-r (bitXor page (page / 512)) 8388607))
+pub fold-is : (page : ℕ) → (bitAnd (bitXor page (page / 1024)) 4194303 ≡ foldOf page) × (bitAnd (bitXor page (page / 1024)) 4194303 < 8388608)
+unfolding foldOf
+fold-is page = (refl, omega (arith, and-le-r (bitXor page (page / 1024)) 4194303))
 
-slot-most : (page : ℕ) → slotOf page < 8388608
-unfolding slotOf
-slot-most page = slot-is page .1
+-- 22 bits of a product
+pub product-most : (page : ℕ) → bitAnd (page * 2654435769 / 1024) 4194303 ≤ 4194303
+product-most page = and-le-r (page * 2654435769 / 1024) 4194303
 
-pub bit-is : (slot : ℕ) → (1 * 2 ^ (slot % 32)) % 2 ^ 32 ≡ bitOf slot
+pub product-is : (page : ℕ)
+    → (4194304 + bitAnd (page * 2654435769 / 1024) 4194303 ≡ productOf page) × (4194304 + bitAnd (page * 2654435769 / 1024) 4194303 < 8388608)
+unfolding productOf
+product-is page = (refl, omega (arith, product-most page))
+
+fold-inside : (page : ℕ) → foldOf page < 8388608
+unfolding foldOf
+fold-inside page = fold-is page .1
+
+product-inside : (page : ℕ) → productOf page < 8388608
+unfolding productOf
+product-inside page = product-is page .1
+
+pub bit-is : (bit : ℕ) → (1 * 2 ^ (bit % 32)) % 2 ^ 32 ≡ bitOf bit
 unfolding bitOf
-bit-is slot = let e = shl-exact {a = 1} 1 (slot % 32) 32 (omega arith) (omega arith) in omega arith
+bit-is bit = let e = shl-exact {a = 1} 1 (bit % 32) 32 (omega arith) (omega arith) in omega arith
 
-pub marked-is : (marks : List ℕ) (page slot bit : ℕ) → slot ≡ slotOf page → bit ≡ bitOf slot
-    → ltb 0 (bitAnd (getD marks (slot / 32) 0) bit) ≡ isMarked marks page
-unfolding isMarked
-marked-is marks page slot bit e f = rw (f, e)
+pub set-is : (marks : List ℕ) (bit b : ℕ) → b ≡ bitOf bit → ltb 0 (bitAnd (getD marks (bit / 32) 0) b) ≡ isSet marks bit
+unfolding isSet
+set-is marks bit b e = rw e
 
-pub mark-is : (marks : List ℕ) (page slot bit : ℕ) → slot ≡ slotOf page → bit ≡ bitOf slot
-    → set marks (slot / 32) (bitOr (getD marks (slot / 32) 0) bit) ≡ withMark marks page
-unfolding withMark
-mark-is marks page slot bit e f = rw (f, e)
+pub with-is : (marks : List ℕ) (bit b : ℕ) → b ≡ bitOf bit → set marks (bit / 32) (bitOr (getD marks (bit / 32) 0) b) ≡ withBit marks bit
+unfolding withBit
+with-is marks bit b e = rw e
 
--- A mark set
+-- One bit set
 
-module _ (marks : List ℕ) (p : ℕ) (size : length marks ≡ words) where
-  inside : wordOf (slotOf p) < length marks
-  inside = let m = slot-most p in omega arith
+length-bit : (marks : List ℕ) (p : ℕ) → length (withBit marks p) ≡ length marks
+unfolding withBit
+length-bit marks p = simp length-set
 
-  marked-own : isMarked (withMark marks p) p ≡ true
-  unfolding isMarked withMark bitOf
-  marked-own =
-      let b = bitOf (slotOf p) in
-      let x = getD marks (wordOf (slotOf p)) 0 in
+module _ (marks : List ℕ) (p : ℕ) (size : length marks ≡ words) (most : p < 8388608) where
+  inside : p / 32 < length marks
+  inside = omega arith
+
+  set-own : isSet (withBit marks p) p ≡ true
+  unfolding isSet withBit bitOf
+  set-own =
+      let b = bitOf p in
+      let x = getD marks (p / 32) 0 in
       let h = there b x in
-      let z = pow-pos (slotOf p % 32) in
-      rw (getD-set-same marks (wordOf (slotOf p)) (bitOr x b) 0 inside) (lt-ltb 0 (bitAnd (bitOr x b) b) (omega arith))
+      let z = pow-pos (p % 32) in
+      rw (getD-set-same marks (p / 32) (bitOr x b) 0 inside) (lt-ltb 0 (bitAnd (bitOr x b) b) (omega arith))
 
-  marked-kept : (q : ℕ) → isMarked marks q ≡ true → isMarked (withMark marks p) q ≡ true
-  unfolding isMarked withMark
-  marked-kept q m =
-      let b = bitOf (slotOf p) in
-      let x = getD marks (wordOf (slotOf p)) 0 in
-      cases (eqb (wordOf (slotOf q)) (wordOf (slotOf p)))
-      (λ s. let e : wordOf (slotOf q) ≡ wordOf (slotOf p) = eqb-true _ _ s in
-      let l = ltb-true 0 (bitAnd x (bitOf (slotOf q))) (rw e at m) in
-      let h = kept x b (bitOf (slotOf q)) in
-      rw (e, getD-set-same marks (wordOf (slotOf p)) (bitOr x b) 0 inside) (lt-ltb 0 (bitAnd (bitOr x b) (bitOf (slotOf q))) (omega arith)))
-      (λ s. rw (getD-set-other marks (wordOf (slotOf p)) (wordOf (slotOf q)) (bitOr x b) 0 (eqb-false _ _ s)) m)
+  set-kept : (q : ℕ) → isSet marks q ≡ true → isSet (withBit marks p) q ≡ true
+  unfolding isSet withBit
+  set-kept q m =
+      let b = bitOf p in
+      let x = getD marks (p / 32) 0 in
+      cases (eqb (q / 32) (p / 32))
+      (λ s. let e : q / 32 ≡ p / 32 = eqb-true _ _ s in
+      let l = ltb-true 0 (bitAnd x (bitOf q)) (rw e at m) in
+      let h = kept x b (bitOf q) in
+      rw (e, getD-set-same marks (p / 32) (bitOr x b) 0 inside) (lt-ltb 0 (bitAnd (bitOr x b) (bitOf q)) (omega arith)))
+      (λ s. rw (getD-set-other marks (p / 32) (q / 32) (bitOr x b) 0 (eqb-false _ _ s)) m)
 
-  -- one more page behind those marked
-  pub all-more : (pages : List ℕ) → AllMarked marks pages → AllMarked (withMark marks p) (pages ++ (p ∷ []))
-  unfolding AllMarked _or_
-  all-more pages all q m =
-      cases (mem q pages) (λ t. marked-kept q (all q t))
-      (λ t. let m′ = rw (mem-append q pages (p ∷ []), t) at m in
-      cases (eqb q p) (λ s. rw (eqb-true q p s) marked-own) (λ s. clash false (rw s at m′) refl))
+-- A mark: both bits
+
+module _ (marks : List ℕ) (page : ℕ) where
+  pub marked-is : (r : Bool) → isSet marks (foldOf page) ≡ true → r ≡ isSet marks (productOf page) → r ≡ isMarked marks page
+  unfolding isMarked _and_
+  marked-is r e f = rw e f
+
+  pub not-marked : isSet marks (foldOf page) ≡ false → false ≡ isMarked marks page
+  unfolding isMarked _and_
+  not-marked e = rw e
+
+  pub mark-is : (first both : List ℕ) → first ≡ withBit marks (foldOf page) → both ≡ withBit first (productOf page) → both ≡ withMark marks page
+  unfolding withMark
+  mark-is first both e f = rw e at f
+
+  module _ (size : length marks ≡ words) where
+    first-size : length (withBit marks (foldOf page)) ≡ words
+    first-size = length-bit marks (foldOf page) ∙ size
+
+    both-kept : (bit : ℕ) → isSet marks bit ≡ true → isSet (withMark marks page) bit ≡ true
+    unfolding withMark
+    both-kept bit e =
+        set-kept (withBit marks (foldOf page)) (productOf page) first-size (product-inside page) bit
+        (set-kept marks (foldOf page) size (fold-inside page) bit e)
+
+    marked-own : isMarked (withMark marks page) page ≡ true
+    unfolding isMarked withMark
+    marked-own =
+        and-i _ _
+        (set-kept (withBit marks (foldOf page)) (productOf page) first-size (product-inside page) (foldOf page)
+        (set-own marks (foldOf page) size (fold-inside page)))
+        (set-own (withBit marks (foldOf page)) (productOf page) first-size (product-inside page))
+
+    marked-kept : (q : ℕ) → isMarked marks q ≡ true → isMarked (withMark marks page) q ≡ true
+    unfolding isMarked
+    marked-kept q m = and-i _ _ (both-kept (foldOf q) (and-l _ _ m)) (both-kept (productOf q) (and-r _ _ m))
+
+    -- one more page behind those marked
+    pub all-more : (pages : List ℕ) → AllMarked marks pages → AllMarked (withMark marks page) (pages ++ (page ∷ []))
+    unfolding AllMarked _or_
+    all-more pages all q m =
+        cases (mem q pages) (λ t. marked-kept q (all q t))
+        (λ t. let m′ = rw (mem-append q pages (page ∷ []), t) at m in
+        cases (eqb q page) (λ s. rw (eqb-true q page s) marked-own) (λ s. clash false (rw s at m′) refl))
 
 pub all-none : (marks : List ℕ) → AllMarked marks []
 unfolding AllMarked
@@ -112,7 +164,7 @@ all-none marks q m = clash false m refl
 
 pub length-marked : (marks : List ℕ) (p : ℕ) → length (withMark marks p) ≡ length marks
 unfolding withMark
-length-marked marks p = simp length-set
+length-marked marks p = length-bit (withBit marks (foldOf p)) (productOf p) ∙ length-bit marks (foldOf p)
 
 -- a page whose mark is not set is none of those marked
 pub unmarked : (marks pages : List ℕ) (p : ℕ) → AllMarked marks pages → false ≡ isMarked marks p → mem p pages ≡ false

@@ -1,35 +1,43 @@
--- Marks for pages: a bit for each of 8,388,608 slots, 32 to a word. Pages share slots, so a mark that is set says little; one that is
--- not set says that no page with that slot was marked.
-use Prim.Native.Nat.{ℕ, _*_, _/_, _%_, _^_}
+-- Marks for pages: 8,388,608 bits, 32 to a word, of which each page has two. Pages share bits, so a mark that is set says little; one
+-- that is not set says that the page was not marked.
+use Prim.Native.Nat.{ℕ, _+_, _*_, _/_, _%_, _^_}
 use mathlib.Core.Path.{_≡_}
 use mathlib.Core.Bool.{Bool, true}
 use mathlib.Core.List.{List}
 use lib.Bits.{bitAnd, bitOr, bitXor}
 use lib.Dec.{ltb}
 use lib.ListN.{getD, set}
+use Rattle.lists.specs.Choice.{_and_}
 use Rattle.lists.specs.Pages.{mem}
 
 -- how many words the marks have
 abbrev pub words : ℕ
 words = 262144
 
--- the slot of a page: its low 23 bits, with its high 23 bits folded in
-unfoldable pub slotOf : ℕ → ℕ
-slotOf page = bitAnd (bitXor page (page / 512)) 8388607
+-- a page's first bit, in the first half: its low 22 bits, with its high 22 bits folded in
+unfoldable pub foldOf : ℕ → ℕ
+foldOf page = bitAnd (bitXor page (page / 1024)) 4194303
 
--- the word and, in it, the bit of a slot
-abbrev pub wordOf : ℕ → ℕ
-wordOf slot = slot / 32
+-- its second, in the second half: 22 bits of a product
+unfoldable pub productOf : ℕ → ℕ
+productOf page = 4194304 + bitAnd (page * 2654435769 / 1024) 4194303
 
+-- a bit's place in its word
 unfoldable pub bitOf : ℕ → ℕ
-bitOf slot = 2 ^ (slot % 32)
+bitOf bit = 2 ^ (bit % 32)
 
+unfoldable pub isSet : (marks : List ℕ) → (bit : ℕ) → Bool
+isSet marks bit = ltb 0 (bitAnd (getD marks (bit / 32) 0) (bitOf bit))
+
+unfoldable pub withBit : (marks : List ℕ) → (bit : ℕ) → List ℕ
+withBit marks bit = set marks (bit / 32) (bitOr (getD marks (bit / 32) 0) (bitOf bit))
+
+-- a page's mark is set where both its bits are
 unfoldable pub isMarked : (marks : List ℕ) → (page : ℕ) → Bool
-isMarked marks page = ltb 0 (bitAnd (getD marks (wordOf (slotOf page)) 0) (bitOf (slotOf page)))
+isMarked marks page = isSet marks (foldOf page) and isSet marks (productOf page)
 
 unfoldable pub withMark : (marks : List ℕ) → (page : ℕ) → List ℕ
-withMark marks page =
-    set marks (wordOf (slotOf page)) (bitOr (getD marks (wordOf (slotOf page)) 0) (bitOf (slotOf page)))
+withMark marks page = withBit (withBit marks (foldOf page)) (productOf page)
 
 -- the mark of each of these pages is set
 unfoldable pub AllMarked : (marks pages : List ℕ) → Type 0

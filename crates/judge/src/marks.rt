@@ -1,25 +1,46 @@
-// Marks for pages, a bit for each of 8,388,608 slots. Pages share slots: a mark that is not set rules a page out, one that is set does not rule
-// it in. With 200,000 pages about one page in 80 meets the mark of another.
+// Marks for pages: 8,388,608 bits, of which each page has two. Pages share bits: a mark that is not set rules a page out, one that is set does
+// not rule it in. With 200,000 pages one page in a thousand meets the bits of others.
 ghost use mathlib.Core.Path.{_≡_};
-ghost use Prim.Native.Nat.{_+_, _*_, _≤_, _<_};
+ghost use Prim.Native.Nat.{_<_};
 ghost use lib.ListN.{length};
-ghost use Rattle.judge.specs.Marks.{words, slotOf, bitOf, isMarked, withMark, AllMarked};
-ghost use Rattle.judge.specs.Fetches.{fetchedPages};
+ghost use Rattle.judge.specs.Marks.{words, foldOf, productOf, bitOf, isSet, withBit, isMarked, withMark};
 
 pub(crate) const WORDS: usize = 262144;
 
-// The slot of a page. The fold has pages that differ only in their high bits spread too.
-fn slot(page: u32) -> u32
-    ensures { λ r. ⌜ (r ≡ slotOf page) × (r < 8388608) ⌝ }
+// A page's first bit, in the first half of them. Neighbours have bits of their own, and so have pages that differ only in their high halves.
+fn fold(page: u32) -> u32
+    ensures { λ r. ⌜ (r ≡ foldOf page) × (r < 8388608) ⌝ }
 {
-    (page ^ (page >> 9)) & 8388607
+    (page ^ (page >> 10)) & 4194303
 }
 
-// The bit of a slot in its word.
-fn bit(slot: u32) -> u32
-    ensures { λ r. ⌜ r ≡ bitOf slot ⌝ }
+// Its second bit, in the other half: pages that share their first bits are unlikely to share these too.
+fn product(page: u32) -> u32
+    ensures { λ r. ⌜ (r ≡ productOf page) × (r < 8388608) ⌝ }
 {
-    1 << (slot % 32)
+    4194304 + (((page as u64 * 2654435769) >> 10) & 4194303) as u32
+}
+
+// A bit's place in its word.
+fn bit_in_word(bit: u32) -> u32
+    ensures { λ r. ⌜ r ≡ bitOf bit ⌝ }
+{
+    1 << (bit % 32)
+}
+
+fn is_set(marks: &[u32], bit: u32) -> bool
+    requires { ⌜ (length (now marks) ≡ words) × (bit < 8388608) ⌝ }
+    ensures { λ r. ⌜ r ≡ isSet (now (marks .entry)) bit ⌝ }
+{
+    marks[(bit / 32) as usize] & bit_in_word(bit) > 0
+}
+
+fn set_bit(marks: &mut [u32], bit: u32)
+    requires { ⌜ (length (now marks) ≡ words) × (bit < 8388608) ⌝ }
+    ensures { λ _. ⌜ now (marks .exit) ≡ withBit (now (marks .entry)) bit ⌝ }
+{
+    let at = (bit / 32) as usize;
+    marks[at] = marks[at] | bit_in_word(bit);
 }
 
 // Whether the page's mark is set.
@@ -27,8 +48,10 @@ pub(crate) fn marked(marks: &[u32], page: u32) -> bool
     requires { ⌜ length (now marks) ≡ words ⌝ }
     ensures { λ r. ⌜ r ≡ isMarked (now (marks .entry)) page ⌝ }
 {
-    let own = slot(page);
-    marks[(own / 32) as usize] & bit(own) > 0
+    if is_set(marks, fold(page)) {
+        return is_set(marks, product(page));
+    }
+    false
 }
 
 // The page's mark is set.
@@ -36,7 +59,6 @@ pub(crate) fn mark(marks: &mut [u32], page: u32)
     requires { ⌜ length (now marks) ≡ words ⌝ }
     ensures { λ _. ⌜ now (marks .exit) ≡ withMark (now (marks .entry)) page ⌝ }
 {
-    let own = slot(page);
-    let at = (own / 32) as usize;
-    marks[at] = marks[at] | bit(own);
+    set_bit(marks, fold(page));
+    set_bit(marks, product(page));
 }
