@@ -13,7 +13,7 @@ pub(crate) fn has(held: &[u32], n: usize, page: u32) -> bool
     requires { ⌜ n ≤ length (now held) ⌝ }
     ensures { λ r. ⌜ r ≡ mem page (take n (now (held .entry))) ⌝ }
 {
-    lists::find(&held[..n], page) < n
+    lists::has(&held[..n], page)
 }
 
 // The page is added if it is absent. The answer is how many pages are then held; where that is more than k, nothing is stored.
