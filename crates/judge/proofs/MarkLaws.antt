@@ -49,24 +49,24 @@ there =
 
 -- A page's bits
 
-pub fold-is : (page : ℕ) → (bitAnd (bitXor page (page / 1024)) 4194303 ≡ foldOf page) × (bitAnd (bitXor page (page / 1024)) 4194303 < 8388608)
+pub fold-is : (page : ℕ) → (bitAnd (bitXor page (page / 4096)) 1048575 ≡ foldOf page) × (bitAnd (bitXor page (page / 4096)) 1048575 < 2097152)
 unfolding foldOf
-fold-is page = (refl, omega (arith, and-le-r (bitXor page (page / 1024)) 4194303))
+fold-is page = (refl, omega (arith, and-le-r (bitXor page (page / 4096)) 1048575))
 
--- 22 bits of a product
-pub product-most : (page : ℕ) → bitAnd (page * 2654435769 / 1024) 4194303 ≤ 4194303
-product-most page = and-le-r (page * 2654435769 / 1024) 4194303
+-- 20 bits of a product
+pub product-most : (page : ℕ) → bitAnd (page * 2654435769 / 4096) 1048575 ≤ 1048575
+product-most page = and-le-r (page * 2654435769 / 4096) 1048575
 
 pub product-is : (page : ℕ)
-    → (4194304 + bitAnd (page * 2654435769 / 1024) 4194303 ≡ productOf page) × (4194304 + bitAnd (page * 2654435769 / 1024) 4194303 < 8388608)
+    → (1048576 + bitAnd (page * 2654435769 / 4096) 1048575 ≡ productOf page) × (1048576 + bitAnd (page * 2654435769 / 4096) 1048575 < 2097152)
 unfolding productOf
 product-is page = (refl, omega (arith, product-most page))
 
-fold-inside : (page : ℕ) → foldOf page < 8388608
+fold-inside : (page : ℕ) → foldOf page < 2097152
 unfolding foldOf
 fold-inside page = fold-is page .1
 
-product-inside : (page : ℕ) → productOf page < 8388608
+product-inside : (page : ℕ) → productOf page < 2097152
 unfolding productOf
 product-inside page = product-is page .1
 
@@ -88,7 +88,7 @@ length-bit : (marks : List ℕ) (p : ℕ) → length (withBit marks p) ≡ lengt
 unfolding withBit
 length-bit marks p = simp length-set
 
-module _ (marks : List ℕ) (p : ℕ) (size : length marks ≡ words) (most : p < 8388608) where
+module _ (marks : List ℕ) (p : ℕ) (size : length marks ≡ words) (most : p < 2097152) where
   inside : p / 32 < length marks
   inside = omega arith
 

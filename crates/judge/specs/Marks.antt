@@ -1,4 +1,4 @@
--- Marks for pages: 8,388,608 bits, 32 to a word, of which each page has two. Pages share bits, so a mark that is set says little; one
+-- Marks for pages: 2,097,152 bits, 32 to a word, of which each page has two. Pages share bits, so a mark that is set says little; one
 -- that is not set says that the page was not marked.
 use Prim.Native.Nat.{ℕ, _+_, _*_, _/_, _%_, _^_}
 use mathlib.Core.Path.{_≡_}
@@ -12,15 +12,15 @@ use Rattle.lists.specs.Pages.{mem}
 
 -- how many words the marks have
 abbrev pub words : ℕ
-words = 262144
+words = 65536
 
--- a page's first bit, in the first half: its low 22 bits, with its high 22 bits folded in
+-- a page's first bit, in the first half: its low 20 bits, with its high 20 bits folded in
 unfoldable pub foldOf : ℕ → ℕ
-foldOf page = bitAnd (bitXor page (page / 1024)) 4194303
+foldOf page = bitAnd (bitXor page (page / 4096)) 1048575
 
--- its second, in the second half: 22 bits of a product
+-- its second, in the second half: 20 bits of a product
 unfoldable pub productOf : ℕ → ℕ
-productOf page = 4194304 + bitAnd (page * 2654435769 / 1024) 4194303
+productOf page = 1048576 + bitAnd (page * 2654435769 / 4096) 1048575
 
 -- a bit's place in its word
 unfoldable pub bitOf : ℕ → ℕ
