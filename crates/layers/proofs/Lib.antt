@@ -1,4 +1,5 @@
 pub mod Rows
+pub mod MergeLaws
 pub mod Serving
 pub mod Reading
 pub mod WellFormed

@@ -2,6 +2,7 @@ pub mod Rows
 pub mod Formed
 pub mod Calls
 pub mod Serving
+pub mod Merging
 pub mod Sizes
 pub mod Questions
 pub mod Traces

@@ -11,7 +11,7 @@ use Rattle.layers.proofs.table.serve.Tie as tie
 use Rattle.layers.proofs.table.serve.Reads as reads
 use Rattle.layers.proofs.table.serve.Lts as lts
 use Rattle.layers.proofs.table.renumber.Reads as renumber-reads
-use Rattle.layers.proofs.table.sort.Reads as sort-reads
+use Rattle.layers.proofs.merge.sort.Reads as sort-reads
 use Rattle.layers.proofs.table.top_after.Reads as top-after-reads
 
 -- src/table.rt:215:9
