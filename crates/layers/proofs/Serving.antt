@@ -12,7 +12,7 @@ use borrow.Author.Tests.{eq-eqb, ne-eqb, lt-ltb, le-ltb, le-leb, lt-leb}
 use Rattle.lists.specs.Choice.{pick, _and_, _or_}
 use Rattle.lists.specs.Pages.{count, filter, bit}
 use Rattle.lists.specs.Sorting.{Row, rowBefore, insertBy, sortBy, sortRows}
-use Rattle.lists.proofs.Choice.{tests, cases}
+use Rattle.lists.proofs.Choice.{tests, cases, clash}
 use Rattle.lists.proofs.Sorting.{length-sort}
 use Rattle.paging.specs.Layers.{LayerRule, append, join, lift, layerRule, renumbered, topAfter}
 use Rattle.paging.specs.Table.{numberIn, renumberedRow, aboveZero, othersAfter, rowsBy, ruleIn, rowsAfter}
@@ -253,19 +253,21 @@ module _ (c : Change) (k a s p places n : ℕ) (rows : List Row) (ek : c .k ≡ 
   rule-is : ruleOf (c .rule) ≡ ruleIn k s p rows
   rule-is = er ∙ rw ei
 
-  pub step-full : places ≤ n → SteppedTo k a s p places rows rows (record { full = true; rule = c .rule; s = 0 })
+  pub step-full : places ≤ n → SteppedTo k a s p places rows rows (record { full = true; rule = c .rule; s = 0; used = 0 })
   step-full h = record {
     full-told = rw after-length (sym (lt-ltb places (n + 1) (omega arith)));
     rule-told = rule-is;
     top-told = refl;
     rows-told = refl;
+    used-told = λ e. clash true refl e;
   }
 
   pub step-served : (top : ℕ) (after : List Row) → n < places → top ≡ topAfter (ruleOf (c .rule)) (c .k) (c .a) s → after ≡ tableOf places (served c s rows)
-      → SteppedTo k a s p places rows after (record { full = false; rule = c .rule; s = top })
+      → SteppedTo k a s p places rows after (record { full = false; rule = c .rule; s = top; used = n + 1 })
   step-served top after h et told = record {
     full-told = rw after-length (sym (le-ltb places (n + 1) (omega arith)));
     rule-told = rule-is;
     top-told = et ∙ rw (rule-is, ek, ea);
     rows-told = told ∙ rw (served-is c k a s p rows ek ea ep ei er);
+    used-told = λ _. sym after-length;
   }

@@ -1,22 +1,22 @@
 -- The loop that serves a trace: the table holds the layers of the requests so far, and what is left of the trace gives from there what
 -- the whole gives from the start.
-use Prim.Native.Nat.{ℕ, zero, suc, _+_, _-_, _≤_, _<_}
+use Prim.Native.Nat.{ℕ, zero, suc, _+_, _-_, _≤_, _<_, min}
 use native.Mathlib.Omega.{arith}
 use native.Mathlib.Numerals.{add-one}
 use mathlib.Core.Path.{_≡_, refl, sym, ap, _∙_}
 use mathlib.Core.Bool.{Bool, true, false}
-use mathlib.Core.List.{List, [], _∷_, _++_}
+use mathlib.Core.List.{List, [], _∷_, _++_, append-assoc}
 use lib.Dec.{ltb}
-use lib.ListN.{length, drop, getD, replicate, drop-of-length-le}
-use lib.Seq.{drop-cons}
-use borrow.Author.Tests.{eq-eqb, ne-eqb, lt-ltb, le-ltb}
+use lib.ListN.{length, take, drop, getD, replicate, length-append, length-replicate, drop-of-length-le}
+use lib.Seq.{drop-cons, take-at, drop-at, length-take-le}
+use borrow.Author.Tests.{eq-eqb, ne-eqb, lt-ltb, le-ltb, ltb-true, ltb-false}
 use Rattle.lists.specs.Choice.{pick, _and_, _or_}
 use Rattle.lists.specs.Pages.{bit}
-use Rattle.lists.proofs.Choice.{clash}
+use Rattle.lists.proofs.Choice.{cases, clash}
 use Rattle.lists.specs.Sorting.{Row}
 use Rattle.paging.specs.Refusals.{sizesRefusal}
 use Rattle.paging.specs.Layers.{LayerRule, append, join, lift, isJoin, topAfter}
-use Rattle.paging.specs.Table.{ruleIn, rowsAfter}
+use Rattle.paging.specs.Table.{ruleIn, rowsAfter, sizeOf}
 use Rattle.layers.specs.Rows.{rowsOf, rowAt, unused, usedRows, tableOf}
 use Rattle.layers.specs.Formed.{isUnused}
 use Rattle.layers.specs.Calls.{ruleOf}
@@ -25,16 +25,18 @@ use Rattle.layers.specs.Traces.{Tabled, nothingYet, tabledNext, tabledAf
 use Rattle.layers.specs.Over.{ServedTo, earlyRefusal}
 use Rattle.layers.specs.declared.table.Stepped.{Stepped}
 use Rattle.layers.specs.declared.trace.Served.{Served}
-use Rattle.layers.proofs.Rows.{rows-length, rows-get}
+use Rattle.layers.proofs.Rows.{rows-length, rows-get, rows-take, rows-drop, rows-append}
 use Rattle.layers.proofs.Serving.{used-rows, used-rule}
 use Rattle.layers.proofs.Refusing.{sizes-pass, sizes-fall}
-use Rattle.layers.proofs.Forming.{FormedRows, no-rows-formed, request-forms, used-table}
+use Rattle.layers.proofs.Forming.{FormedRows, no-rows-formed, request-forms, one-row-more, used-table}
 
 -- what the table, s and the bundles stand for
 abbrev pub tabledIn : List Row → (s joins : ℕ) → Tabled
 tabledIn rows s joins = record { rows = usedRows rows; s = s; joins = joins }
 
-pub record ServedSoFar (k a : ℕ) (trace : List ℕ) (places : ℕ) (rows : List Row) (s joins i : ℕ) : Type 0 where
+pub record ServedSoFar (k a : ℕ) (trace : List ℕ) (places : ℕ) (rows : List Row) (s joins used i : ℕ) : Type 0 where
+  pub counted : used ≡ length (usedRows rows)
+  pub fits : used ≤ places
   pub within : i ≤ length trace
   pub sound : Sound k a s
   pub few : joins ≤ i
@@ -51,10 +53,12 @@ used-nothing zero = refl
 used-nothing (suc n) = used-nothing n
 
 pub nothing-served : (k a : ℕ) (trace : List ℕ) (rows : List Row) (places : ℕ) → Sound k a 0 → rows ≡ replicate places unused
-    → ServedSoFar k a trace places rows 0 0 0
+    → ServedSoFar k a trace places rows 0 0 0 0
 nothing-served k a trace rows places sound e =
     let none : usedRows rows ≡ [] = rw e (used-nothing places) in
     record {
+      counted = rw none refl;
+      fits = omega arith;
       within = omega arith;
       sound = sound;
       few = omega arith;
@@ -76,7 +80,7 @@ or-full : (x y : Bool) → x ≡ true → true ≡ (x or y)
 unfolding _or_
 or-full x y e = rw e refl
 
-module _ (k a : ℕ) (trace : List ℕ) (places : ℕ) (rows : List Row) (s joins i : ℕ) (Y : ServedSoFar k a trace places rows s joins i) where
+module _ (k a : ℕ) (trace : List ℕ) (places : ℕ) (rows : List Row) (s joins used i : ℕ) (Y : ServedSoFar k a trace places rows s joins used i) where
   pub at-end : length trace ≤ i → ServedTo k a trace places rows (record { full = false; s = s; joins = joins })
   at-end h =
       let none : drop i trace ≡ [] = drop-of-length-le trace h in
@@ -88,10 +92,7 @@ module _ (k a : ℕ) (trace : List ℕ) (places : ℕ) (rows : List Row) (s join
         joins-told = λ _. rw all refl;
       }
 
-  module _ (h : i < length trace) (after : List Row) (r : Stepped) (n : ℕ) (size : n ≡ places) (step-told : SteppedTo k a s (getD trace i 0) n rows after r) where
-    told : SteppedTo k a s (getD trace i 0) places rows after r
-    told = rw size at step-told
-
+  module _ (h : i < length trace) (after : List Row) (r : Stepped) (told : SteppedTo k a s (getD trace i 0) places rows after r) where
     rest : drop i trace ≡ getD trace i 0 ∷ drop (suc i) trace
     rest = drop-cons trace i 0 h
 
@@ -114,7 +115,7 @@ module _ (k a : ℕ) (trace : List ℕ) (places : ℕ) (rows : List Row) (s join
         }
 
     pub goes-on : (bundles : ℕ) → r .full ≡ false → bundles ≡ bit (isJoin (ruleOf (r .rule)))
-        → ServedSoFar k a trace places after (r .s) (joins + bundles) (i + 1)
+        → ServedSoFar k a trace places after (r .s) (joins + bundles) (r .used) (i + 1)
     goes-on bundles f b =
         let p = getD trace i 0 in
         let same : rowsAfter k a s p (usedRows rows) ≡ rowsAfter k a s p rows = used-rows k a s p rows in
@@ -123,19 +124,115 @@ module _ (k a : ℕ) (trace : List ℕ) (places : ℕ) (rows : List Row) (s join
         let formed : FormedRows k a (r .s) (rowsAfter k a s p (usedRows rows))
         = rw top (request-forms k a s p (usedRows rows) (Y .sound .a-low) (Y .sound .a-high) (Y .formed)) in
         let table : after ≡ tableOf places (rowsAfter k a s p (usedRows rows)) = told .rows-told ∙ rw (f, same) refl in
-        let used : usedRows after ≡ rowsAfter k a s p (usedRows rows) = rw table (used-table places _ (formed .above)) in
+        let used-rows-are : usedRows after ≡ rowsAfter k a s p (usedRows rows) = rw table (used-table places _ (formed .above)) in
         let joined : joins + bundles ≡ joins + bit (isJoin (ruleIn k s p (usedRows rows)))
         = ap (λ (n : ℕ). joins + n) (b ∙ ap (λ (x : LayerRule). bit (isJoin x)) (told .rule-told ∙ sym rule)) in
-        let state : tabledIn after (r .s) (joins + bundles) ≡ tabledNext k a p (tabledIn rows s joins) = rw (used, top, joined) refl in
+        let state : tabledIn after (r .s) (joins + bundles) ≡ tabledNext k a p (tabledIn rows s joins) = rw (used-rows-are, top, joined) refl in
+        let count : r .used ≡ length (rowsAfter k a s p (usedRows rows)) = told .used-told f ∙ ap (λ (l : List Row). length l) (sym same) in
+        let space : length (rowsAfter k a s p (usedRows rows)) ≤ places = ltb-false _ _ (sym room-told ∙ f) in
         record {
+          counted = count ∙ ap (λ (l : List Row). length l) (sym used-rows-are);
+          fits = omega arith;
           within = omega arith;
           sound = record { a-low = Y .sound .a-low; a-high = Y .sound .a-high; k-high = Y .sound .k-high; s-high = formed .most };
           few = omega (arith, Y .few, one-bundle (isJoin (ruleOf (r .rule))));
-          formed = rw used formed;
-          shape = table ∙ ap (tableOf places) (sym used);
+          formed = rw used-rows-are formed;
+          shape = table ∙ ap (tableOf places) (sym used-rows-are);
           left = Y .left ∙ rw (rest, add-one i, state) refl;
           full-left = Y .full-left ∙ rw (rest, add-one i, state) (or-of _ _ (sym room-told ∙ f));
         }
+
+-- A request sees a prefix of the table alone, behind which all is unused
+
+replicate-more : (m n : ℕ) → replicate m unused ++ replicate n unused ≡ replicate (m + n) unused
+replicate-more zero n = ap (λ (k : ℕ). replicate k unused) (plus-zero n)
+  where
+    plus-zero : (k : ℕ) → k ≡ 0 + k
+    plus-zero k = omega arith
+replicate-more (suc m) n =
+    let e : suc m + n ≡ suc (m + n) = omega arith in rw e (ap (λ (l : List Row). unused ∷ l) (replicate-more m n))
+
+-- a table in two parts
+table-parts : (U : List Row) (m places : ℕ) → length U ≤ m → m ≤ places → tableOf places U ≡ tableOf m U ++ replicate (places - m) unused
+table-parts U m places h g =
+    let e : (m - length U) + (places - m) ≡ places - length U = omega arith in
+    sym (append-assoc U (replicate (m - length U) unused) (replicate (places - m) unused)
+    ∙ rw (replicate-more (m - length U) (places - m), e) refl)
+
+table-length : (U : List Row) (m : ℕ) → length U ≤ m → length (tableOf m U) ≡ m
+table-length U m h = rw (length-append U (replicate (m - length U) unused), length-replicate (m - length U) unused) (omega arith)
+
+same-test : (m places n used : ℕ) → n ≤ used + 1 → m ≡ min (used + 1) places → used ≤ places → ltb m n ≡ ltb places n
+same-test m places n used h e g =
+    cases (ltb places n)
+    (λ t. t-true (ltb-true _ _ t) ∙ sym t)
+    (λ t. let f : n ≤ places = ltb-false _ _ t in le-ltb m n (omega arith) ∙ sym t)
+  where
+    t-true : places < n → ltb m n ≡ true
+    t-true l = lt-ltb m n (omega arith)
+
+module _ (k a s p places used m : ℕ) (rows before after : List Row) (r : Stepped) (shape : rows ≡ tableOf places (usedRows rows)) (above : sizeOf 0 (usedRows rows) ≡ 0)
+    (counted : used ≡ length (usedRows rows)) (fits : used ≤ places) (m-is : m ≡ min (used + 1) places) (cut : before ≡ take m rows) (told : SteppedTo k a s p m before after r) where
+  part-is : rows ≡ tableOf m (usedRows rows) ++ replicate (places - m) unused
+  part-is = shape ∙ table-parts (usedRows rows) m places (omega arith) (omega arith)
+
+  pub before-is : before ≡ tableOf m (usedRows rows)
+  before-is = cut ∙ ap (take m) part-is ∙ take-at (tableOf m (usedRows rows)) _ m (table-length (usedRows rows) m (omega arith))
+
+  rest-is : drop m rows ≡ replicate (places - m) unused
+  rest-is = ap (drop m) part-is ∙ drop-at (tableOf m (usedRows rows)) _ m (table-length (usedRows rows) m (omega arith))
+
+  used-before : usedRows before ≡ usedRows rows
+  used-before = rw before-is (used-table m (usedRows rows) above)
+
+  same-rows : rowsAfter k a s p before ≡ rowsAfter k a s p rows
+  same-rows =
+      sym (used-rows k a s p before) ∙ ap (λ (l : List Row). rowsAfter k a s p l) used-before ∙ used-rows k a s p rows
+
+  same-rule : ruleIn k s p before ≡ ruleIn k s p rows
+  same-rule = sym (used-rule k s p before) ∙ ap (λ (l : List Row). ruleIn k s p l) used-before ∙ used-rule k s p rows
+
+  few : length (rowsAfter k a s p rows) ≤ used + 1
+  few = rw counted (rw (used-rows k a s p rows) at (one-row-more k a s p (usedRows rows)))
+
+  full-is : r .full ≡ ltb places (length (rowsAfter k a s p rows))
+  full-is = told .full-told ∙ rw same-rows (same-test m places (length (rowsAfter k a s p rows)) used few m-is fits)
+
+  together : after ++ drop m rows ≡ pick (r .full) rows (tableOf places (rowsAfter k a s p rows))
+  together =
+      cases (r .full)
+      (λ t. let same : after ≡ before = told .rows-told ∙ rw t refl in rw (t, same, cut) (take-drop-rows rows m))
+      (λ f. let new : after ≡ tableOf m (rowsAfter k a s p rows) = told .rows-told ∙ rw (f, same-rows) refl in
+      let n : length (rowsAfter k a s p rows) ≤ m = ltb-false m (length (rowsAfter k a s p rows)) (ap (λ (l : List Row). ltb m (length l)) (sym same-rows) ∙ sym (told .full-told) ∙ f) in
+      rw (f, new, rest-is) (sym (table-parts (rowsAfter k a s p rows) m places n (omega arith))))
+    where
+      take-drop-rows : (xs : List Row) (n : ℕ) → take n xs ++ drop n xs ≡ xs
+      take-drop-rows xs zero = refl
+      take-drop-rows [] (suc n) = refl
+      take-drop-rows (x ∷ xs) (suc n) = ap (λ (l : List Row). x ∷ l) (take-drop-rows xs n)
+
+  pub stepped-whole : SteppedTo k a s p places rows (after ++ drop m rows) r
+  stepped-whole = record {
+    full-told = full-is;
+    rule-told = told .rule-told ∙ same-rule;
+    top-told = told .top-told ∙ rw same-rule refl;
+    rows-told = together;
+    used-told = λ f. told .used-told f ∙ rw same-rows refl;
+  }
+
+-- the same on the two lists
+pub stepped-lists : (k a : ℕ) (trace : List ℕ) (s p joins used i places m n : ℕ) (ns ps ns′ ps′ : List ℕ) (r : Stepped) → length ps ≡ places → length ns ≡ length ps
+    → ServedSoFar k a trace places (rowsOf ns ps) s joins used i → m ≡ min (used + 1) (length ps) → n ≡ length (take m ps) → length ps′ ≡ length (take m ps) → length ns′ ≡ length (take m ns)
+    → SteppedTo k a s p n (rowsOf (take m ns) (take m ps)) (rowsOf ns′ ps′) r
+    → SteppedTo k a s p places (rowsOf ns ps) (rowsOf (ns′ ++ drop m ns) (ps′ ++ drop m ps)) r
+stepped-lists k a trace s p joins used i places m n ns ps ns′ ps′ r size len Y m-is n-is lp ln told =
+    let f = Y .fits in
+    let low : m ≤ length ps = omega arith in
+    let tp : length (take m ps) ≡ m = length-take-le m ps low in
+    let tn : length (take m ns) ≡ m = length-take-le m ns (omega arith) in
+    let at-m : SteppedTo k a s p m (rowsOf (take m ns) (take m ps)) (rowsOf ns′ ps′) r = rw (n-is ∙ tp) at told in
+    rw (rows-append ns′ (drop m ns) ps′ (drop m ps) (omega arith), rows-drop ns ps m (sym len))
+    (stepped-whole k a s p places used m (rowsOf ns ps) (rowsOf (take m ns) (take m ps)) (rowsOf ns′ ps′) r (Y .shape) (Y .formed .above) (Y .counted) f (rw size at m-is) (rows-take ns ps m) at-m)
 
 -- The look for unused places, in what is left of the table
 

@@ -1,6 +1,7 @@
 -- What the inner functions of src/table.rt do to the rows: the definitions of the model, in the steps in which the code takes them.
 use Prim.Native.Nat.{ℕ, suc, _≤_}
 use mathlib.Core.Path.{_≡_}
+use mathlib.Core.Bool.{false}
 use mathlib.Core.List.{List, [], _∷_, _++_, map}
 use lib.Dec.{eqb, ltb}
 use lib.ListN.{length, take, drop, getD}
@@ -48,3 +49,4 @@ pub record SteppedTo (k a s p places : ℕ) (before after : List Row) (r : Stepp
   pub rule-told : ruleOf (r .rule) ≡ ruleIn k s p before
   pub top-told : r .s ≡ pick (r .full) 0 (topAfter (ruleIn k s p before) k a s)
   pub rows-told : after ≡ pick (r .full) before (tableOf places (rowsAfter k a s p before))
+  pub used-told : r .full ≡ false → r .used ≡ length (rowsAfter k a s p before)

@@ -1,6 +1,6 @@
 // The layers over a whole trace: requests served one after the other on the table, with no check of the state.
 ghost use mathlib.Core.Path.{_≡_};
-ghost use Prim.Native.Nat.{_≤_};
+ghost use Prim.Native.Nat.{_+_, _≤_, min};
 ghost use lib.ListN.{length, replicate};
 ghost use Rattle.layers.specs.Rows.{rowsOf, unused};
 ghost use Rattle.layers.specs.Serving.{Sound};
@@ -15,7 +15,18 @@ pub(crate) struct Served {
     pub joins: u32,
 }
 
-// Serves a trace on a table that is all unused. It stops at the first request after which there would be too many pages.
+// One place more than those used, where there is one: a request needs no more.
+fn room(used: usize, places: usize) -> usize
+    ensures { λ r. ⌜ r ≡ min (used + 1) places ⌝ }
+{
+    if used < places {
+        return used + 1;
+    }
+    places
+}
+
+// Serves a trace on a table that is all unused. A request sees the used places alone, and one more, so that it costs those.
+// It stops at the first request after which there would be too many pages.
 pub(crate) fn serve_all(
     k: u32,
     a: u32,
@@ -29,9 +40,11 @@ pub(crate) fn serve_all(
 {
     let mut s = 0;
     let mut joins = 0;
+    let mut used = 0;
     let mut i = 0;
     while i < trace.len() {
-        let stepped = table::step(k, a, s, trace[i], pages, numbers);
+        let m = room(used, pages.len());
+        let stepped = table::step(k, a, s, trace[i], &mut pages[..m], &mut numbers[..m]);
         if stepped.full {
             return Served {
                 full: true,
@@ -42,6 +55,7 @@ pub(crate) fn serve_all(
         let rule = stepped.rule;
         joins += table::bundles(rule);
         s = stepped.s;
+        used = stepped.used;
         i += 1;
     }
     Served {

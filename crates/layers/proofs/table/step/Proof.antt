@@ -43,7 +43,9 @@ returns c =
 serve-requires : tie.Need-serve-requires
 serve-requires c κs = search needs
 
--- src/table.rt:232:1
+add-used : tie.Need-add-t20
+add-used c = search needs
+
 same-length-3 : tie.Need-same-length-3
 same-length-3 c = search needs
 
@@ -69,6 +71,7 @@ step-spec =
     same-length-2
     returns
     serve-requires
+    add-used
     same-length-3
     same-length-4
     returns-2)

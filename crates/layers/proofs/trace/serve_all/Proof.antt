@@ -1,92 +1,58 @@
-use borrow.Author.Needs.{needs}
 use Prim.Native.Nat.{_-_}
 use mathlib.Core.Path.{_≡_, refl, sym, _∙_}
 use native.Mathlib.Omega.{arith}
-use lib.ListN.{length}
+use lib.ListN.{length, length-take, length-append, length-drop}
+use lib.Seq.{length-take-le}
 use Rattle.layers.specs.Rows.{rowsOf}
-use Rattle.layers.proofs.TraceLaws.{ServedSoFar, nothing-served, at-end, too-full, joins-fit, goes-on}
+use Rattle.layers.proofs.TraceLaws.{ServedSoFar, nothing-served, at-end, too-full, joins-fit, goes-on, stepped-lists}
+use borrow.Author.Needs.{needs}
 use Rattle.layers.proofs.trace.serve_all.Statement.{statement}
 use Rattle.layers.proofs.trace.serve_all.Tie as tie
-use Rattle.layers.proofs.trace.serve_all.Reads as reads
-use Rattle.layers.proofs.trace.serve_all.Lts as lts
-use Rattle.layers.proofs.table.bundles.Reads as bundles-reads
-use Rattle.layers.proofs.table.step.Reads as step-reads
 
 abbrev Inv-loop : tie.InvT-loop
-Inv-loop k a trace pages₀ numbers₀ s₀ joins₀ i₀ pages numbers s joins i =
-    (length pages ≡ length pages₀) × (length numbers ≡ length pages) × ServedSoFar k a trace (length pages₀) (rowsOf numbers pages) s joins i
+Inv-loop k a trace pages₀ numbers₀ s₀ joins₀ used₀ i₀ pages numbers s joins used i = (length pages ≡ length pages₀) × (length numbers ≡ length pages) × ServedSoFar k a trace (length pages₀) (rowsOf numbers pages) s joins used i
 
 abbrev μ-loop : tie.MeasureT-loop
-μ-loop k a trace pages₀ numbers₀ s₀ joins₀ i₀ pages numbers s joins i = length trace - i
+μ-loop k a trace pages₀ numbers₀ s₀ joins₀ used₀ i₀ pages numbers s joins used i = length trace - i
 
--- src/trace.rt:27:5
 loop-holds : tie.Need-loop-holds Inv-loop μ-loop
 loop-holds c = (refl, sym (c .before .before .before .pre .0), nothing-served _ _ _ _ _ (c .before .before .before .pre .1) (c .before .before .before .pre .3))
 
--- src/trace.rt:28:44
-mul-step : tie.Need-mul-step Inv-loop μ-loop
-mul-step c = search needs
+slice-relend-prefix-step : tie.Need-slice-relend-prefix-step Inv-loop μ-loop
+slice-relend-prefix-step c = let f = c .before .before .before .loop .inv .2 .fits in search needs
 
--- src/trace.rt:28:44
-shared-slice-read-step : tie.Need-shared-slice-read-step Inv-loop μ-loop
-shared-slice-read-step c = search needs
+slice-aggregate-step : tie.Need-slice-aggregate-step Inv-loop μ-loop
+slice-aggregate-step c = sym (length-take-le (c .before .before .room .result) (c .before .before .before .before .loop .pages) (omega arith))
 
--- src/trace.rt:28:13
+slice-aggregate-step-2 : tie.Need-slice-aggregate-step-2 Inv-loop μ-loop
+slice-aggregate-step-2 c = sym (length-take-le (c .before .before .before .room .result) (c .before .before .before .before .before .loop .numbers) (omega arith))
+
 step-requires : tie.Need-step-requires Inv-loop μ-loop
-step-requires c κs = search needs
+step-requires c κs = (simp length-take (omega arith), c .before .before .before .before .before .loop .inv .2 .sound)
 
--- src/trace.rt:30:13
 same-length : tie.Need-same-length Inv-loop μ-loop
-same-length c = search needs
+same-length c = let l = c .before .before .before .before .before .step .kept .1 .1 .1 .1 .0 in simp (length-append, length-drop) (omega (arith, simp length-take at l))
 
--- src/trace.rt:30:13
 same-length-2 : tie.Need-same-length-2 Inv-loop μ-loop
-same-length-2 c = search needs
+same-length-2 c = let l = c .before .before .before .before .before .step .kept .1 .1 .1 .1 .1 .0 in simp (length-append, length-drop) (omega (arith, simp length-take at l))
 
--- src/trace.rt:30:13
 returns : tie.Need-returns Inv-loop μ-loop
-returns c =
-    too-full _ _ _ _ _ _ _ _ (c .before .before .before .before .before .before .before .before .before .before .loop .inv .2) (c .before .before .before .before .before .before .before .before .before .loop-test .taken) _ (c .before .before .before .before .before .step .result) _ (c .before .before .before .before .before .before .before .before .before .before .loop .inv .0) (c .before .before .before .before .before .step .ensures) (c .if1 .taken)
+returns c = too-full _ _ _ _ _ _ _ _ _ (c .before .before .before .before .before .before .before .before .before .before .before .loop .inv .2) (c .before .before .before .before .before .before .before .before .before .before .loop-test .taken) _ (c .before .before .before .before .before .step .result) (stepped-lists (c .before .before .before .before .before .before .before .before .before .before .before .before .before .before .before .args .k) (c .before .before .before .before .before .before .before .before .before .before .before .before .before .before .before .args .a) (c .before .before .before .before .before .before .before .before .before .before .before .before .before .before .before .args .trace .now) (c .before .before .before .before .before .before .before .before .before .before .before .loop .s) _ (c .before .before .before .before .before .before .before .before .before .before .before .loop .joins) (c .before .before .before .before .before .before .before .before .before .before .before .loop .used) (c .before .before .before .before .before .before .before .before .before .before .before .loop .i) _ (c .before .before .before .before .before .before .before .before .before .room .result) _ (c .before .before .before .before .before .before .before .before .before .before .before .loop .numbers) (c .before .before .before .before .before .before .before .before .before .before .before .loop .pages) (c .before .before .before .before .before .step .last .1 .1 .1 .1 .1 .0) (c .before .before .before .before .before .step .last .1 .1 .1 .1 .0) (c .before .before .before .before .before .step .result) (c .before .before .before .before .before .before .before .before .before .before .before .loop .inv .0) (c .before .before .before .before .before .before .before .before .before .before .before .loop .inv .1) (c .before .before .before .before .before .before .before .before .before .before .before .loop .inv .2) (c .before .before .before .before .before .before .before .before .before .room .ensures) refl (c .before .before .before .before .before .step .kept .1 .1 .1 .1 .0) (c .before .before .before .before .before .step .kept .1 .1 .1 .1 .1 .0) (c .before .before .before .before .before .step .ensures)) (c .if1 .taken)
 
--- src/trace.rt:33:18
-bundles-requires : tie.Need-bundles-requires Inv-loop μ-loop
-bundles-requires c κs = search needs
-
--- src/trace.rt:33:9
 add-joins : tie.Need-add-joins Inv-loop μ-loop
-add-joins c =
-    record {
-      fits =
-          joins-fit _ _ _ _ _ _ _ _ (c .before .before .before .before .before .before .before .before .before .before .before .loop .inv .2) (c .before .before .before .before .before .before .before .before .before .before .loop-test .taken) _ (c .before .before .before .before .before .before .step .result) _ (c .before .before .before .before .before .before .before .before .before .before .before .loop .inv .0) (c .before .before .before .before .before .before .step .ensures) _ (c .before .before .before .before .before .before .before .before .before .before .before .before .before .before .before .pre .2) (c .bundles .ensures);
-    }
+add-joins c = record { fits = joins-fit _ _ _ _ _ _ _ _ _ (c .before .before .before .before .before .before .before .before .before .before .before .before .loop .inv .2) (c .before .before .before .before .before .before .before .before .before .before .before .loop-test .taken) _ (c .before .before .before .before .before .before .step .result) (stepped-lists (c .before .before .before .before .before .before .before .before .before .before .before .before .before .before .before .before .args .k) (c .before .before .before .before .before .before .before .before .before .before .before .before .before .before .before .before .args .a) (c .before .before .before .before .before .before .before .before .before .before .before .before .before .before .before .before .args .trace .now) (c .before .before .before .before .before .before .before .before .before .before .before .before .loop .s) _ (c .before .before .before .before .before .before .before .before .before .before .before .before .loop .joins) (c .before .before .before .before .before .before .before .before .before .before .before .before .loop .used) (c .before .before .before .before .before .before .before .before .before .before .before .before .loop .i) _ (c .before .before .before .before .before .before .before .before .before .before .room .result) _ (c .before .before .before .before .before .before .before .before .before .before .before .before .loop .numbers) (c .before .before .before .before .before .before .before .before .before .before .before .before .loop .pages) (c .before .before .before .before .before .before .step .last .1 .1 .1 .1 .1 .0) (c .before .before .before .before .before .before .step .last .1 .1 .1 .1 .0) (c .before .before .before .before .before .before .step .result) (c .before .before .before .before .before .before .before .before .before .before .before .before .loop .inv .0) (c .before .before .before .before .before .before .before .before .before .before .before .before .loop .inv .1) (c .before .before .before .before .before .before .before .before .before .before .before .before .loop .inv .2) (c .before .before .before .before .before .before .before .before .before .before .room .ensures) refl (c .before .before .before .before .before .before .step .kept .1 .1 .1 .1 .0) (c .before .before .before .before .before .before .step .kept .1 .1 .1 .1 .1 .0) (c .before .before .before .before .before .before .step .ensures)) _ (c .before .before .before .before .before .before .before .before .before .before .before .before .before .before .before .before .pre .2) (c .bundles .ensures) }
 
--- src/trace.rt:35:9
-add-i : tie.Need-add-i Inv-loop μ-loop
-add-i c = search needs
-
--- src/trace.rt:27:5
-loop-less : tie.Need-loop-less Inv-loop μ-loop
-loop-less c = search needs
-
--- src/trace.rt:27:5
 loop-again : tie.Need-loop-again Inv-loop μ-loop
-loop-again c = (
-  c .before .before .before .before .before .before .step .kept .1 .1 .1 .1 .0 ∙ c .before .before .before .before .before .before .before .before .before .before .before .loop .inv .0,
-  c .before .before .before .before .before .before .step .kept .1 .1 .1 .1 .1 .0 ∙ c .before .before .before .before .before .before .before .before .before .before .before .loop .inv .1 ∙ sym (c .before .before .before .before .before .before .step .kept .1 .1 .1 .1 .0),
-  goes-on _ _ _ _ _ _ _ _ (c .before .before .before .before .before .before .before .before .before .before .before .loop .inv .2) (c .before .before .before .before .before .before .before .before .before .before .loop-test .taken) _ (c .before .before .before .before .before .before .step .result) _ (c .before .before .before .before .before .before .before .before .before .before .before .loop .inv .0) (c .before .before .before .before .before .before .step .ensures) _ (c .before .if1 .left) (c .bundles .ensures),
-)
+loop-again c =
+    let l = c .before .before .before .before .before .before .step .kept .1 .1 .1 .1 .0 in
+    let n = c .before .before .before .before .before .before .step .kept .1 .1 .1 .1 .1 .0 in (
+      simp (length-append, length-drop) (omega (arith, simp length-take at l)),
+      simp (length-append, length-drop) (omega (arith, simp length-take at l, simp length-take at n)),
+      goes-on _ _ _ _ _ _ _ _ _ (c .before .before .before .before .before .before .before .before .before .before .before .before .loop .inv .2) (c .before .before .before .before .before .before .before .before .before .before .before .loop-test .taken) _ (c .before .before .before .before .before .before .step .result) (stepped-lists (c .before .before .before .before .before .before .before .before .before .before .before .before .before .before .before .before .args .k) (c .before .before .before .before .before .before .before .before .before .before .before .before .before .before .before .before .args .a) (c .before .before .before .before .before .before .before .before .before .before .before .before .before .before .before .before .args .trace .now) (c .before .before .before .before .before .before .before .before .before .before .before .before .loop .s) _ (c .before .before .before .before .before .before .before .before .before .before .before .before .loop .joins) (c .before .before .before .before .before .before .before .before .before .before .before .before .loop .used) (c .before .before .before .before .before .before .before .before .before .before .before .before .loop .i) _ (c .before .before .before .before .before .before .before .before .before .before .room .result) _ (c .before .before .before .before .before .before .before .before .before .before .before .before .loop .numbers) (c .before .before .before .before .before .before .before .before .before .before .before .before .loop .pages) (c .before .before .before .before .before .before .step .last .1 .1 .1 .1 .1 .0) (c .before .before .before .before .before .before .step .last .1 .1 .1 .1 .0) (c .before .before .before .before .before .before .step .result) (c .before .before .before .before .before .before .before .before .before .before .before .before .loop .inv .0) (c .before .before .before .before .before .before .before .before .before .before .before .before .loop .inv .1) (c .before .before .before .before .before .before .before .before .before .before .before .before .loop .inv .2) (c .before .before .before .before .before .before .before .before .before .before .room .ensures) refl (c .before .before .before .before .before .before .step .kept .1 .1 .1 .1 .0) (c .before .before .before .before .before .before .step .kept .1 .1 .1 .1 .1 .0) (c .before .before .before .before .before .before .step .ensures)) _ (c .before .if1 .left) (c .bundles .ensures),
+    )
 
--- src/trace.rt:19:1
-same-length-3 : tie.Need-same-length-3 Inv-loop μ-loop
-same-length-3 c = search needs
-
--- src/trace.rt:19:1
-same-length-4 : tie.Need-same-length-4 Inv-loop μ-loop
-same-length-4 c = search needs
-
--- src/trace.rt:19:1
 returns-2 : tie.Need-returns-2 Inv-loop μ-loop
-returns-2 c = at-end _ _ _ _ _ _ _ _ (c .before .loop .inv .2) (c .loop-test .left)
+returns-2 c = at-end _ _ _ _ _ _ _ _ _ (c .before .loop .inv .2) (c .loop-test .left)
 
 pub serve-all-spec : {M : Type 1} → statement M
 serve-all-spec =
@@ -95,17 +61,22 @@ serve-all-spec =
     Inv-loop
     μ-loop
     loop-holds
-    mul-step
-    shared-slice-read-step
+    (λ c κs. search needs)
+    (λ c. search needs)
+    (λ c. search needs)
+    slice-relend-prefix-step
+    slice-aggregate-step
+    (λ c. search needs)
+    slice-aggregate-step-2
     step-requires
     same-length
     same-length-2
     returns
-    bundles-requires
+    (λ c κs. search needs)
     add-joins
-    add-i
-    loop-less
+    (λ c. search needs)
+    (λ c. search needs)
     loop-again
-    same-length-3
-    same-length-4
+    (λ c. search needs)
+    (λ c. search needs)
     returns-2)
