@@ -10,3 +10,4 @@ pub mod Forming
 pub mod Steps
 pub mod TraceLaws
 pub mod OverLaws
+pub mod QuickLaws

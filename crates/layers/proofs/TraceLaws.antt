@@ -21,6 +21,7 @@ use Rattle.layers.specs.Rows.{rowsOf, rowAt, unused, usedRows, tableOf}
 use Rattle.layers.specs.Formed.{isUnused}
 use Rattle.layers.specs.Calls.{ruleOf}
 use Rattle.layers.specs.Serving.{Sound, SteppedTo}
+use Rattle.layers.specs.Filling.{Filled}
 use Rattle.layers.specs.Traces.{Tabled, nothingYet, tabledNext, tabledAfter, overflows, allUnused}
 use Rattle.layers.specs.Over.{ServedTo, earlyRefusal}
 use Rattle.layers.specs.declared.table.Stepped.{Stepped}
@@ -233,6 +234,26 @@ stepped-lists k a trace s p joins used i places m n ns ps ns′ ps′ r size len
     let at-m : SteppedTo k a s p m (rowsOf (take m ns) (take m ps)) (rowsOf ns′ ps′) r = rw (n-is ∙ tp) at told in
     rw (rows-append ns′ (drop m ns) ps′ (drop m ps) (omega arith), rows-drop ns ps m (sym len))
     (stepped-whole k a s p places used m (rowsOf ns ps) (rowsOf (take m ns) (take m ps)) (rowsOf ns′ ps′) r (Y .shape) (Y .formed .above) (Y .counted) f (rw size at m-is) (rows-take ns ps m) at-m)
+
+-- the prefix is filled with the used rows
+pub filled-prefix : (k a : ℕ) (trace : List ℕ) (s joins used i places m : ℕ) (ns ps : List ℕ) → length ps ≡ places → length ns ≡ length ps
+    → ServedSoFar k a trace places (rowsOf ns ps) s joins used i → m ≡ min (used + 1) (length ps) → Filled used (take m ns) (take m ps)
+filled-prefix k a trace s joins used i places m ns ps size len Y m-is =
+    let f = Y .fits in
+    let n = Y .counted in
+    let U = usedRows (rowsOf ns ps) in
+    let tp : length (take m ps) ≡ m = length-take-le m ps (omega arith) in
+    let tn : length (take m ns) ≡ m = length-take-le m ns (omega arith) in
+    let part : rowsOf (take m ns) (take m ps) ≡ U ++ replicate (m - length U) unused =
+    rows-take ns ps m ∙ ap (take m) (Y .shape ∙ table-parts U m places (omega arith) (omega arith)) ∙ take-at (tableOf m U) _ m (table-length U m (omega arith)) in
+    let front : take used (rowsOf (take m ns) (take m ps)) ≡ U = rw part (take-at U _ used (sym n)) in
+    record {
+      even = tp ∙ sym tn;
+      fits = omega arith;
+      above = rw front (Y .formed .above);
+      sorted = rw front (Y .formed .sorted);
+      rest = rw (part, tp, drop-at U (replicate (m - length U) unused) used (sym n), n) refl;
+    }
 
 -- The look for unused places, in what is left of the table
 

@@ -3,6 +3,7 @@ pub mod Formed
 pub mod Calls
 pub mod Serving
 pub mod Merging
+pub mod Filling
 pub mod Sizes
 pub mod Questions
 pub mod Traces

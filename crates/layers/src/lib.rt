@@ -9,6 +9,7 @@ ghost use Rattle.layers.specs.Traces.{refusedTotals, traceTotals, pagesO
 mod formed;
 mod merge;
 mod questions;
+mod quick;
 mod table;
 mod trace;
 

@@ -6,6 +6,7 @@ ghost use Rattle.layers.specs.Rows.{rowsOf, unused};
 ghost use Rattle.layers.specs.Serving.{Sound};
 ghost use Rattle.layers.specs.Traces.{allUnused};
 ghost use Rattle.layers.specs.Over.{ServedTo, earlyRefusal};
+use crate::quick;
 use crate::table;
 
 // What the requests of a trace came to: whether the table was too small on the way, s and the bundles counted.
@@ -44,7 +45,7 @@ pub(crate) fn serve_all(
     let mut i = 0;
     while i < trace.len() {
         let m = room(used, pages.len());
-        let stepped = table::step(k, a, s, trace[i], &mut pages[..m], &mut numbers[..m]);
+        let stepped = quick::step(k, a, s, trace[i], &mut pages[..m], &mut numbers[..m], used);
         if stepped.full {
             return Served {
                 full: true,

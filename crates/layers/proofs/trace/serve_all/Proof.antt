@@ -4,7 +4,7 @@ use native.Mathlib.Omega.{arith}
 use lib.ListN.{length, length-take, length-append, length-drop}
 use lib.Seq.{length-take-le}
 use Rattle.layers.specs.Rows.{rowsOf}
-use Rattle.layers.proofs.TraceLaws.{ServedSoFar, nothing-served, at-end, too-full, joins-fit, goes-on, stepped-lists}
+use Rattle.layers.proofs.TraceLaws.{ServedSoFar, nothing-served, at-end, too-full, joins-fit, goes-on, stepped-lists, filled-prefix}
 use borrow.Author.Needs.{needs}
 use Rattle.layers.proofs.trace.serve_all.Statement.{statement}
 use Rattle.layers.proofs.trace.serve_all.Tie as tie
@@ -28,7 +28,7 @@ slice-aggregate-step-2 : tie.Need-slice-aggregate-step-2 Inv-loop μ-loop
 slice-aggregate-step-2 c = sym (length-take-le (c .before .before .before .room .result) (c .before .before .before .before .before .loop .numbers) (omega arith))
 
 step-requires : tie.Need-step-requires Inv-loop μ-loop
-step-requires c κs = (simp length-take (omega arith), c .before .before .before .before .before .loop .inv .2 .sound)
+step-requires c κs = (filled-prefix (c .before .before .before .before .before .before .before .before .before .args .k) (c .before .before .before .before .before .before .before .before .before .args .a) (c .before .before .before .before .before .before .before .before .before .args .trace .now) (c .before .before .before .before .before .loop .s) (c .before .before .before .before .before .loop .joins) (c .before .before .before .before .before .loop .used) (c .before .before .before .before .before .loop .i) _ (c .before .before .before .room .result) (c .before .before .before .before .before .loop .numbers) (c .before .before .before .before .before .loop .pages) (c .before .before .before .before .before .loop .inv .0) (c .before .before .before .before .before .loop .inv .1) (c .before .before .before .before .before .loop .inv .2) (c .before .before .before .room .ensures), c .before .before .before .before .before .loop .inv .2 .sound)
 
 same-length : tie.Need-same-length Inv-loop μ-loop
 same-length c = let l = c .before .before .before .before .before .step .kept .1 .1 .1 .1 .0 in simp (length-append, length-drop) (omega (arith, simp length-take at l))
