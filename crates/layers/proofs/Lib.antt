@@ -11,3 +11,4 @@ pub mod Steps
 pub mod TraceLaws
 pub mod OverLaws
 pub mod QuickLaws
+pub mod LiftLaws

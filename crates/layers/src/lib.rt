@@ -7,6 +7,7 @@ use paging::Sizes;
 ghost use Rattle.layers.specs.Traces.{refusedTotals, traceTotals, pagesOver, numbersOver};
 
 mod formed;
+mod lift;
 mod merge;
 mod questions;
 mod quick;

@@ -1,76 +1,81 @@
-use Prim.Native.Nat.{_≤_, _-_, max}
-use mathlib.Core.Path.{_≡_}
 use native.Mathlib.Omega.{arith}
-use lib.ListN.{length, drop}
-use Rattle.paging.specs.Table.{numberIn}
-use Rattle.layers.specs.Rows.{rowsOf}
-use Rattle.layers.proofs.Serving.{number-next, number-end}
+use mathlib.Core.Path.{sym, _∙_}
+use Rattle.layers.proofs.LiftLaws.{number-none, number-once}
 use borrow.Author.Needs.{needs}
 use Rattle.layers.proofs.table.number_in.Statement.{statement}
 use Rattle.layers.proofs.table.number_in.Tie as tie
 use Rattle.layers.proofs.table.number_in.Reads as reads
 use Rattle.layers.proofs.table.number_in.Lts as lts
-use Rattle.layers.proofs.table.larger.Reads as larger-reads
+use Rattle.layers.proofs.table.largest_in.Reads as largest-in-reads
+use Rattle.lists.proofs.find.Reads as find-reads
+use Rattle.lists.proofs.has.Reads as has-reads
 
-abbrev Inv-loop : tie.InvT-loop
-Inv-loop pages numbers page best₀ i₀ best i = (i ≤ length pages) × (max best (numberIn (drop i (rowsOf numbers pages)) page) ≡ numberIn (rowsOf numbers pages) page)
-
-abbrev μ-loop : tie.MeasureT-loop
-μ-loop pages numbers page best₀ i₀ best i = length pages - i
-
--- src/table.rt:38:5
-loop-holds : tie.Need-loop-holds Inv-loop μ-loop
-loop-holds c = search needs
-
--- src/table.rt:39:29
-mul-larger : tie.Need-mul-larger Inv-loop μ-loop
-mul-larger c = search needs
-
--- src/table.rt:39:29
-shared-slice-read-larger : tie.Need-shared-slice-read-larger Inv-loop μ-loop
-shared-slice-read-larger c = search needs
-
--- src/table.rt:39:41
-mul-larger-2 : tie.Need-mul-larger-2 Inv-loop μ-loop
-mul-larger-2 c = search needs
-
--- src/table.rt:39:41
-shared-slice-read-larger-2 : tie.Need-shared-slice-read-larger-2 Inv-loop μ-loop
-shared-slice-read-larger-2 c = search needs
-
--- src/table.rt:39:9
-larger-requires : tie.Need-larger-requires Inv-loop μ-loop
-larger-requires c κs = search needs
+-- src/table.rt:38:9
+find-requires : tie.Need-find-requires
+find-requires c κs = search needs
 
 -- src/table.rt:40:9
-add-i : tie.Need-add-i Inv-loop μ-loop
-add-i c = search needs
+returns : tie.Need-returns
+returns c = number-none (c .before .before .before .before .args .numbers .now) (c .before .before .before .before .args .pages .now) (c .before .before .before .before .args .page) (c .before .find .result) (c .before .find .ensures) (c .if1 .taken)
 
--- src/table.rt:38:5
-loop-less : tie.Need-loop-less Inv-loop μ-loop
-loop-less c = search needs
+-- src/table.rt:42:18
+add-behind : tie.Need-add-behind
+add-behind c = search needs
 
--- src/table.rt:38:5
-loop-again : tie.Need-loop-again Inv-loop μ-loop
-loop-again c = (omega arith, number-next (c .before .before .before .before .before .before .before .args .numbers .now) (c .before .before .before .before .before .before .before .args .pages .now) (c .before .before .before .before .before .before .before .args .page) (c .before .before .before .before .loop .i) (c .before .before .before .before .loop .best) _ (c .before .before .before .before .before .before .before .pre) (c .before .before .before .loop-test .taken) (c .larger .ensures) (c .before .before .before .before .loop .inv .1))
+-- src/table.rt:43:19
+mul-has : tie.Need-mul-has
+mul-has c = search needs
 
--- src/table.rt:32:1
-returns : tie.Need-returns Inv-loop μ-loop
-returns c = number-end (c .before .before .before .before .args .numbers .now) (c .before .before .before .before .args .pages .now) (c .before .before .before .before .args .page) (c .before .loop .i) _ (c .before .before .before .before .pre) (c .loop-test .left) (c .before .loop .inv .1)
+-- src/table.rt:43:19
+sub-has : tie.Need-sub-has
+sub-has c = search needs
+
+-- src/table.rt:43:19
+part-has-start : tie.Need-part-has-start
+part-has-start c = search needs
+
+-- src/table.rt:43:19
+part-has-end : tie.Need-part-has-end
+part-has-end c = search needs
+
+-- src/table.rt:43:8
+has-requires : tie.Need-has-requires
+has-requires c κs = search needs
+
+-- src/table.rt:44:9
+largest-in-requires : tie.Need-largest-in-requires
+largest-in-requires c κs = search needs
+
+-- src/table.rt:44:9
+returns-2 : tie.Need-returns-2
+returns-2 c = search needs
+
+-- src/table.rt:46:5
+mul-result : tie.Need-mul-result
+mul-result c = search needs
+
+-- src/table.rt:46:5
+shared-slice-read-result : tie.Need-shared-slice-read-result
+shared-slice-read-result c = search needs
+
+-- src/table.rt:34:1
+returns-3 : tie.Need-returns-3
+returns-3 c = number-once (c .before .before .before .before .before .before .before .before .args .numbers .now) (c .before .before .before .before .before .before .before .before .args .pages .now) (c .before .before .before .before .before .before .before .before .args .page) (c .before .before .before .before .before .find .result) (c .before .before .before .before .before .before .before .before .pre) (c .before .before .before .before .before .find .ensures) (omega arith) (sym (c .before .before .has .ensures) ∙ c .before .if2 .left)
 
 pub number-in-spec : {M : Type 1} → statement M
 number-in-spec =
     tie.close
     (tie.spec
-    Inv-loop
-    μ-loop
-    loop-holds
-    mul-larger
-    shared-slice-read-larger
-    mul-larger-2
-    shared-slice-read-larger-2
-    larger-requires
-    add-i
-    loop-less
-    loop-again
-    returns)
+    find-requires
+    returns
+    add-behind
+    mul-has
+    sub-has
+    part-has-start
+    part-has-end
+    has-requires
+    largest-in-requires
+    returns-2
+    mul-result
+    shared-slice-read-result
+    returns-3)

@@ -6,10 +6,10 @@ use Rattle.layers.specs.Rows.{rowsOf}
 use Rattle.layers.specs.Serving.{moved}
 use Rattle.layers.proofs.Serving.{kept-one, kept-none, kept-end}
 use borrow.Author.Needs.{needs}
-use Rattle.layers.proofs.table.kept.Statement.{statement}
-use Rattle.layers.proofs.table.kept.Tie as tie
-use Rattle.layers.proofs.table.kept.Reads as reads
-use Rattle.layers.proofs.table.kept.Lts as lts
+use Rattle.layers.proofs.table.kept_by.Statement.{statement}
+use Rattle.layers.proofs.table.kept_by.Tie as tie
+use Rattle.layers.proofs.table.kept_by.Reads as reads
+use Rattle.layers.proofs.table.kept_by.Lts as lts
 use Rattle.layers.proofs.table.number_after.Reads as number-after-reads
 
 abbrev Inv-loop : tie.InvT-loop
@@ -70,8 +70,8 @@ loop-again-2 c = (omega arith, omega arith, kept-none (c .before .before .before
 returns : tie.Need-returns Inv-loop μ-loop
 returns c = kept-end (c .before .before .before .before .args .change) (c .before .before .before .before .args .numbers .now) (c .before .before .before .before .args .pages .now) (c .before .loop .i) _ (c .before .before .before .before .pre .0) (c .loop-test .left) (c .before .loop .inv .2)
 
-pub kept-spec : {M : Type 1} → statement M
-kept-spec =
+pub kept-by-spec : {M : Type 1} → statement M
+kept-by-spec =
     tie.close
     (tie.spec
     Inv-loop

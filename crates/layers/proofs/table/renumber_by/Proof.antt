@@ -5,10 +5,10 @@ use lib.ListN.{length, length-set}
 use Rattle.layers.specs.Rows.{rowsOf}
 use Rattle.layers.proofs.Serving.{Renumbering, renumbering-start, turn-drops, turn-keeps, renumbering-end}
 use borrow.Author.Needs.{needs}
-use Rattle.layers.proofs.table.renumber.Statement.{statement}
-use Rattle.layers.proofs.table.renumber.Tie as tie
-use Rattle.layers.proofs.table.renumber.Reads as reads
-use Rattle.layers.proofs.table.renumber.Lts as lts
+use Rattle.layers.proofs.table.renumber_by.Statement.{statement}
+use Rattle.layers.proofs.table.renumber_by.Tie as tie
+use Rattle.layers.proofs.table.renumber_by.Reads as reads
+use Rattle.layers.proofs.table.renumber_by.Lts as lts
 use Rattle.layers.proofs.table.number_after.Reads as number-after-reads
 
 abbrev Inv-loop : tie.InvT-loop
@@ -109,8 +109,8 @@ same-length-2 c = search needs
 returns : tie.Need-returns Inv-loop μ-loop
 returns c = renumbering-end (c .before .before .before .before .args .change) (c .before .before .before .before .args .numbers .now) (c .before .before .before .before .args .pages .now) (c .before .loop .numbers) (c .before .loop .pages) (c .before .loop .to) (c .before .loop .from) (c .before .before .before .before .pre .0) (omega arith) (omega arith) (c .before .loop .inv .3)
 
-pub renumber-spec : {M : Type 1} → statement M
-renumber-spec =
+pub renumber-by-spec : {M : Type 1} → statement M
+renumber-by-spec =
     tie.close
     (tie.spec
     Inv-loop
