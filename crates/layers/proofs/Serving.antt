@@ -20,7 +20,7 @@ use Rattle.theory.proofs.Table.{numberIn-aboveZero, renumbered-zero}
 use Rattle.layers.specs.Rows.{rowAt, rowsOf, unused, usedRows, tableOf}
 use Rattle.layers.specs.Calls.{ruleOf}
 use Rattle.layers.proofs.Rows.{rows-length, rows-get, rows-set, rows-take, rows-drop, rows-append}
-use Rattle.layers.specs.Serving.{numberAfter, rowMoved, moved, inserted, served, SteppedTo}
+use Rattle.layers.specs.Serving.{numberAfter, rowMoved, moved, served, SteppedTo}
 use Rattle.layers.specs.declared.table.Change.{Change}
 
 -- The number of a page: what is passed, and what is left

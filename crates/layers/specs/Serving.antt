@@ -1,16 +1,16 @@
 -- What the inner functions of src/table.rt do to the rows: the definitions of the model, in the steps in which the code takes them.
-use Prim.Native.Nat.{ℕ, suc, _≤_}
+use Prim.Native.Nat.{ℕ, _≤_}
 use mathlib.Core.Path.{_≡_}
 use mathlib.Core.Bool.{false}
 use mathlib.Core.List.{List, [], _∷_, _++_, map}
 use lib.Dec.{eqb, ltb}
-use lib.ListN.{length, take, drop, getD}
+use lib.ListN.{length}
 use Rattle.lists.specs.Choice.{pick}
 use Rattle.lists.specs.Pages.{filter}
-use Rattle.lists.specs.Sorting.{Row, rowBefore, insertBy, sortRows}
+use Rattle.lists.specs.Sorting.{Row, sortRows}
 use Rattle.paging.specs.Layers.{renumbered, topAfter}
 use Rattle.paging.specs.Table.{aboveZero, ruleIn, rowsAfter}
-use Rattle.layers.specs.Rows.{rowAt, unused, tableOf}
+use Rattle.layers.specs.Rows.{rowAt, tableOf}
 use Rattle.layers.specs.Calls.{ruleOf}
 use Rattle.layers.specs.declared.table.Change.{Change}
 use Rattle.layers.specs.declared.table.Stepped.{Stepped}
@@ -33,10 +33,6 @@ rowMoved change row = record { number = numberAfter change (row .number) (row .p
 -- the rows that stay, renumbered, in their order
 abbrev pub moved : Change → List Row → List Row
 moved change rows = filter aboveZero (map (rowMoved change) rows)
-
--- the row at `at` put behind those rows after it that are before it
-abbrev pub inserted : (at : ℕ) → List Row → List Row
-inserted at rows = take at rows ++ insertBy rowBefore (getD rows at unused) (drop (suc at) rows)
 
 -- the rows after the request: those that stay in order, and the requested page last
 abbrev pub served : Change → (s : ℕ) → List Row → List Row
