@@ -67,7 +67,7 @@ part-passed p i n xs h e =
     ap (place p) (sym (take-append-drop n (drop i xs))) ∙ place-behind p (take n (drop i xs)) (drop n (drop i xs)) e ∙ rw (l, d) refl in
     omega arith
 
--- Whether and how often a page stands in a list
+-- Whether a page stands in a list
 
 pub has-turn : (p i : ℕ) (found : Bool) (xs : List ℕ) → i < length xs → found ≡ mem p (take i xs)
     → found || eqb (getD xs i 0) p ≡ mem p (take (i + 1) xs)
@@ -77,18 +77,10 @@ has-turn p i found xs h e =
     (cases (mem p (take i xs)) (λ m. rw m refl)
     (λ m. rw m (cases (eqb p (getD xs i 0)) (λ s. rw s refl) (λ s. rw s refl))))
 
+-- a Boolean as a number
 pub byte-one : (b : Bool) → boolByte b ≤ 1
 byte-one true = omega arith
 byte-one false = omega arith
-
-byte-bit : (b : Bool) → boolByte b ≡ bit b
-byte-bit true = refl
-byte-bit false = refl
-
-pub times-turn : (p n i : ℕ) (xs : List ℕ) → i < length xs → n ≡ count (eqb p) (take i xs)
-    → n + boolByte (eqb (getD xs i 0) p) ≡ count (eqb p) (take (i + 1) xs)
-times-turn p n i xs h e =
-    rw (add-one i, take-suc xs i 0 h, count-snoc (eqb p) (take i xs) (getD xs i 0), e, byte-bit (eqb (getD xs i 0) p), eqb-sym (getD xs i 0) p) refl
 
 -- A list that grows at its end
 

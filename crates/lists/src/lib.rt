@@ -3,8 +3,7 @@
 ghost use mathlib.Core.Path.{_≡_};
 ghost use Prim.Native.Nat.{_+_, _≤_};
 ghost use lib.ListN.{length, drop};
-ghost use lib.Dec.{eqb};
-ghost use Rattle.lists.specs.Pages.{count, distinct, mem};
+ghost use Rattle.lists.specs.Pages.{distinct, mem};
 ghost use Rattle.lists.specs.Places.{place};
 
 mod chains;
@@ -53,19 +52,6 @@ fn parts_without(pages: &[u32], page: u32) -> usize
         passed += 32;
     }
     passed
-}
-
-// How often the page stands in the list. The whole list is looked at, which is quicker than to stop early.
-pub fn times(pages: &[u32], page: u32) -> usize
-    ensures { λ r. ⌜ r ≡ count (eqb page) (now (pages .entry)) ⌝ }
-{
-    let mut n: usize = 0;
-    let mut i = 0;
-    while i < pages.len() {
-        n += (pages[i] == page) as usize;
-        i += 1;
-    }
-    n
 }
 
 // Whether no page stands in the list twice, for a list of a buffer's size: for any list, and quick for some hundred pages.
