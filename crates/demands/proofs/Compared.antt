@@ -15,7 +15,7 @@ use Rattle.min.specs.Answers.{traceRefusal, bytesRefusal, scheduleRefusal, minS
 use Rattle.judge.specs.Answer.{cost}
 use Rattle.judge.specs.Files.{judged}
 use Rattle.judge.proofs.ExactFiles.{sound, complete}
-use Rattle.layers.proofs.Refusing.{sizes-pass, sizes-taken}
+use Rattle.paging.proofs.Refusals.{sizes-pass, sizes-taken}
 use Rattle.paging.specs.Policy.{bundleCount}
 use Rattle.paging.specs.Lru.{lruRule}
 use Rattle.paging.specs.Min.{bestCount}

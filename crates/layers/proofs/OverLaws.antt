@@ -21,7 +21,7 @@ use Rattle.layers.specs.Over.{ServedTo, earlyRefusal}
 use Rattle.layers.specs.declared.LayersTotals.{LayersTotals}
 use Rattle.layers.specs.declared.trace.Served.{Served}
 use Rattle.layers.proofs.Rows.{numbers-back, pages-back}
-use Rattle.layers.proofs.Refusing.{SizesRight, sizes-right, sizes-pass, sizes-fall}
+use Rattle.paging.proofs.Refusals.{SizesRight, sizes-right, sizes-pass, sizes-fall}
 use Rattle.layers.proofs.Asking.{revealed-used}
 use Rattle.layers.proofs.Forming.{used-table}
 use Rattle.layers.proofs.Steps.{tabled-formed}

@@ -28,7 +28,7 @@ use Rattle.layers.specs.declared.table.Stepped.{Stepped}
 use Rattle.layers.specs.declared.trace.Served.{Served}
 use Rattle.layers.proofs.Rows.{rows-length, rows-get, rows-take, rows-drop, rows-append}
 use Rattle.layers.proofs.Serving.{used-rows, used-rule}
-use Rattle.layers.proofs.Refusing.{sizes-pass, sizes-fall}
+use Rattle.paging.proofs.Refusals.{sizes-pass, sizes-fall}
 use Rattle.layers.proofs.Forming.{FormedRows, no-rows-formed, request-forms, one-row-more, used-table}
 
 -- what the table, s and the bundles stand for

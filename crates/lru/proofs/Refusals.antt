@@ -11,6 +11,7 @@ use Rattle.lists.specs.Choice.{pick, _and_, _or_}
 use Rattle.lists.specs.Pages.{distinct}
 use Rattle.lists.proofs.Choice.{tests, cases, split, clash, and-l, and-r, and-i, and-false-l, and-false-r, or-l, or-r, or-none, or-none-l, or-none-r}
 use Rattle.paging.specs.Refusals.{refuse, sizesRefusal}
+use Rattle.paging.proofs.Refusals.{SizesRight, sizes-pass, sizes-fall, sizes-zero, sizes-right, sizes-taken}
 use Rattle.lru.specs.declared.Run.{Run}
 use Rattle.lru.specs.declared.Reply.{Reply}
 use Rattle.lru.specs.Serving.{emptyRun}
@@ -24,42 +25,15 @@ pub passed : (test : Bool) (number rest : ℕ) → 1 ≤ number → refuse test 
 passed true number rest h e = absurd (omega arith)
 passed false number rest h e = (refl, e)
 
--- k and a as document 01 has them
-pub record Sized (k a : ℕ) : Type 0 where
-  pub k-least : 1 ≤ k
-  pub k-most : k ≤ 256
-  pub a-least : 1 ≤ a
-  pub a-most : a ≤ k
-
 module _ (k a : ℕ) where
   pub sizes-some : (rest : ℕ) → (sizesRefusal k a 0 ≡ 0 → ⊥) → sizesRefusal k a 0 ≡ sizesRefusal k a rest
-  unfolding sizesRefusal
-  sizes-some rest n =
-      cases (eqb k 0 or ltb 256 k) (λ t. rw t refl)
-      (λ t. cases (eqb a 0 or ltb k a) (λ u. rw (t, u) refl) (λ u. absurd (n (rw (t, u) refl))))
+  sizes-some rest n = sym (sizes-fall k a rest (sizesRefusal k a 0) refl n)
 
-  pub sizes-none : (rest : ℕ) → sizesRefusal k a 0 ≡ 0 → sizesRefusal k a rest ≡ rest
-  unfolding sizesRefusal
-  sizes-none rest e =
-      let one = passed (eqb k 0 or ltb 256 k) 1 _ (omega arith) e in
-      let two = passed (eqb a 0 or ltb k a) 2 _ (omega arith) (one .1) in
-      rw (one .0, two .0) refl
+  pub sizes-rest : (rest : ℕ) → sizesRefusal k a rest ≡ 0 → (SizesRight k a) × (rest ≡ 0)
+  sizes-rest rest e = let z = sizes-zero k a rest e in (sizes-right k a z, sym (sizes-pass k a rest z) ∙ e)
 
-  pub sizes-rest : (rest : ℕ) → sizesRefusal k a rest ≡ 0 → (Sized k a) × (rest ≡ 0)
-  unfolding sizesRefusal
-  sizes-rest rest e =
-      let one = passed (eqb k 0 or ltb 256 k) 1 _ (omega arith) e in
-      let two = passed (eqb a 0 or ltb k a) 2 _ (omega arith) (one .1) in
-      let k0 = or-none-l _ _ (one .0) in
-      let km = or-none-r _ _ (one .0) in
-      let a0 = or-none-l _ _ (two .0) in
-      let am = or-none-r _ _ (two .0) in
-      (record { k-least = omega tests; k-most = omega tests; a-least = omega tests; a-most = omega tests }, two .1)
-
-  pub sizes-sized : (rest : ℕ) → Sized k a → sizesRefusal k a rest ≡ rest
-  unfolding sizesRefusal _or_
-  sizes-sized rest s =
-      rw (ne-eqb k 0 (λ e. absurd (omega arith)), le-ltb 256 k (s .k-most), ne-eqb a 0 (λ e. absurd (omega arith)), le-ltb k a (s .a-most)) refl
+  pub sizes-sized : (rest : ℕ) → SizesRight k a → sizesRefusal k a rest ≡ rest
+  sizes-sized rest s = sizes-pass k a rest (sizes-taken k a s)
 
 module _ (run : Run) (count : ℕ) (cache evicted : List ℕ) where
   -- no refusal
@@ -79,9 +53,9 @@ module _ (run : Run) (count : ℕ) (cache evicted : List ℕ) where
       let w3 = and-l _ _ (and-r _ _ (and-r _ _ well)) in
       let w4 = and-r _ _ (and-r _ _ (and-r _ _ well)) in
       record {
-        a-least = sized .a-least;
-        a-most = sized .a-most;
-        k-most = sized .k-most;
+        a-least = sized .a-low;
+        a-most = sized .a-high;
+        k-most = sized .k-high;
         cache-room = omega tests;
         evicted-room = omega tests;
         count-most = omega tests;
@@ -100,18 +74,18 @@ module _ (run : Run) (count : ℕ) (cache evicted : List ℕ) where
   module _ (n : ℕ) (sz : n ≡ sizesRefusal (run .k) (run .a) 0) (z : n ≡ 0) where
     pub number-cache : length cache < run .k → 8 ≡ requestRefusal run count cache evicted
     unfolding requestRefusal _or_
-    number-cache h = sym (sizes-none (run .k) (run .a) _ (sym sz ∙ z) ∙ rw (lt-ltb _ _ h) refl)
+    number-cache h = sym (sizes-pass (run .k) (run .a) _ (sym sz ∙ z) ∙ rw (lt-ltb _ _ h) refl)
 
     module _ (hc : run .k ≤ length cache) where
       pub number-evicted : length evicted < run .a → 8 ≡ requestRefusal run count cache evicted
       unfolding requestRefusal _or_
-      number-evicted h = sym (sizes-none (run .k) (run .a) _ (sym sz ∙ z) ∙ rw (le-ltb _ _ hc, lt-ltb _ _ h) refl)
+      number-evicted h = sym (sizes-pass (run .k) (run .a) _ (sym sz ∙ z) ∙ rw (le-ltb _ _ hc, lt-ltb _ _ h) refl)
 
       module _ (he : run .a ≤ length evicted) where
         rest-is : requestRefusal run count cache evicted
             ≡ refuse (not (wellFormed run count cache)) 9 (refuse (eqb (run .requests) 4294967295) 12 0)
         unfolding requestRefusal _or_
-        rest-is = sizes-none (run .k) (run .a) _ (sym sz ∙ z) ∙ rw (le-ltb _ _ hc, le-ltb _ _ he) refl
+        rest-is = sizes-pass (run .k) (run .a) _ (sym sz ∙ z) ∙ rw (le-ltb _ _ hc, le-ltb _ _ he) refl
 
         pub number-ill : wellFormed run count cache ≡ false → 9 ≡ requestRefusal run count cache evicted
         number-ill w = sym (rest-is ∙ rw w refl)
@@ -172,11 +146,11 @@ module _ (k a : ℕ) (trace : List ℕ) where
 
   pub trace-long : (n : ℕ) → n ≡ sizesRefusal k a 0 → n ≡ 0 → 65536 < length trace → 3 ≡ traceRefusal k a trace
   unfolding traceRefusal
-  trace-long n e z h = sym (sizes-none k a _ (sym e ∙ z) ∙ rw (lt-ltb _ _ h) refl)
+  trace-long n e z h = sym (sizes-pass k a _ (sym e ∙ z) ∙ rw (lt-ltb _ _ h) refl)
 
   pub trace-none : (n : ℕ) → n ≡ sizesRefusal k a 0 → n ≡ 0 → length trace ≤ 65536 → 0 ≡ traceRefusal k a trace
   unfolding traceRefusal
-  trace-none n e z h = sym (sizes-none k a _ (sym e ∙ z) ∙ rw (le-ltb _ _ h) refl)
+  trace-none n e z h = sym (sizes-pass k a _ (sym e ∙ z) ∙ rw (le-ltb _ _ h) refl)
 
   pub trace-ready : traceRefusal k a trace ≡ 0 → TraceReady k a trace
   unfolding traceRefusal
@@ -184,9 +158,9 @@ module _ (k a : ℕ) (trace : List ℕ) where
       let sizes = sizes-rest k a _ e in
       let three = passed (ltb 65536 (length trace)) 3 0 (omega arith) (sizes .1) in
       record {
-        a-least = sizes .0 .a-least;
-        a-most = sizes .0 .a-most;
-        k-most = sizes .0 .k-most;
+        a-least = sizes .0 .a-low;
+        a-most = sizes .0 .a-high;
+        k-most = sizes .0 .k-high;
         trace-most = ltb-false _ _ (three .0);
       }
 

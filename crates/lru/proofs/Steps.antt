@@ -27,7 +27,8 @@ use Rattle.lru.specs.Serving.{emptyRun, heldAfter, kindIn, laid, counted
 use Rattle.lru.specs.Refusing.{requestRefusal, wellFormed, replyOf, cacheOf, traceRefusal, totalsOf}
 use Rattle.lru.specs.Ready.{Ready, TraceReady}
 use Rattle.lru.specs.Standing.{runOver, Stands, Call, State, emptyState, accepts, afterCall, called, afterCalls, acceptedPages, pagesOf, roomy}
-use Rattle.lru.proofs.Refusals.{Sized, sizes-sized, ready-of, well, trace-ready, totals-served}
+use Rattle.paging.proofs.Refusals.{SizesRight}
+use Rattle.lru.proofs.Refusals.{sizes-sized, ready-of, well, trace-ready, totals-served}
 use Rattle.lru.proofs.Laying.{length-laid}
 
 -- Serving keeps the pages held well formed
@@ -115,8 +116,8 @@ module _ {k a : ℕ} {trace : List ℕ} {run : Run} {count : ℕ} {cache : List 
   unfolding requestRefusal
   stands-refusal evicted =
       let w = well run count cache evicted (rw k-is (s .count-most)) (s .evictions-most) (s .loads-most) (s .once) in
-      let z : Sized (run .k) (run .a) =
-      rw (k-is, a-is) (record { k-least = omega arith; k-most = s .k-most; a-least = s .a-least; a-most = s .a-most }) in
+      let z : SizesRight (run .k) (run .a) =
+      rw (k-is, a-is) (record { a-low = s .a-least; a-high = s .a-most; k-high = s .k-most }) in
       sizes-sized (run .k) (run .a) _ z ∙ rw (w, s .record-is) refl
 
   -- An accepted request

@@ -12,6 +12,7 @@ use lib.ListN.{length, drop, take, getD, length-drop, length-take, length-append
 use lib.Seq.{drop-drop, take-all, take-suc}
 use Rattle.lists.specs.Choice.{pick, _or_}
 use Rattle.paging.specs.Refusals.{refuse, sizesRefusal}
+use Rattle.paging.proofs.Refusals as sizes
 use Rattle.wire.specs.Numbers.{bytes32, allBytes32, placed}
 use Rattle.wire.proofs.Numbers.{placed-join, length-placed, length-allBytes32}
 use Rattle.records.specs.Bytes.{evBytes, evLength}
@@ -202,36 +203,17 @@ pub refuses : (b out : List ℕ) (at n r : ℕ) → (n ≡ 0 → ⊥) → r ≡ 
 refuses b out at zero r z e = absurd (z refl)
 refuses b out at (suc n) r z e = (rw e, rw e)
 
--- refusals 1 and 2, judged before others
-sizes-cases : (x y : Bool) (n rest : ℕ) → n ≡ pick x 1 (pick y 2 0) → (n ≡ 0 → pick x 1 (pick y 2 rest) ≡ rest) × ((n ≡ 0 → ⊥) → pick x 1 (pick y 2 rest) ≡ n)
-sizes-cases true y n rest e = (λ z. absurd (omega arith), λ z. sym e)
-sizes-cases false true n rest e = (λ z. absurd (omega arith), λ z. sym e)
-sizes-cases false false n rest e = (λ z. refl, λ z. absurd (z e))
-
+-- refusals 1 and 2, judged before others, with the number as the code has it
 pub sizes-pass : (k a n rest : ℕ) → n ≡ sizesRefusal k a 0 → n ≡ 0 → sizesRefusal k a rest ≡ rest
-unfolding sizesRefusal
-sizes-pass k a n rest e z = sizes-cases (eqb k 0 or ltb 256 k) (eqb a 0 or ltb k a) n rest e .0 z
+sizes-pass k a n rest e z = sizes.sizes-pass k a rest (sym e ∙ z)
 
 pub sizes-refuse : (k a n rest : ℕ) → n ≡ sizesRefusal k a 0 → (n ≡ 0 → ⊥) → sizesRefusal k a rest ≡ n
-unfolding sizesRefusal
-sizes-refuse k a n rest e z = sizes-cases (eqb k 0 or ltb 256 k) (eqb a 0 or ltb k a) n rest e .1 z
-
-or-false : (x y : Bool) → (x or y) ≡ false → (x ≡ false) × (y ≡ false)
-unfolding _or_
-or-false true y e = let z : _≡_ {A = ℕ} 0 1 = cc in absurd (omega arith)
-or-false false y e = (refl, e)
+sizes-refuse k a n rest e z = sizes.sizes-fall k a rest n e z
 
 -- sizes that are not refused: k is 1 to 256, a is 1 to k
 pub sizes-fine : (k a n : ℕ) → n ≡ sizesRefusal k a 0 → n ≡ 0 → (0 < k) × ((k ≤ 256) × ((0 < a) × (a ≤ k)))
-unfolding sizesRefusal
 sizes-fine k a n e z =
-    let p : ((eqb k 0 or ltb 256 k) ≡ false) × (_≡_ {A = ℕ} 0 (pick (eqb a 0 or ltb k a) 2 0))
-    = pick-zero (eqb k 0 or ltb 256 k) 1 (pick (eqb a 0 or ltb k a) 2 0) (omega arith) (sym z ∙ e) in
-    let q : ((eqb a 0 or ltb k a) ≡ false) × (_≡_ {A = ℕ} 0 0) = pick-zero (eqb a 0 or ltb k a) 2 0 (omega arith) (p .1) in
-    let kk : (eqb k 0 ≡ false) × (ltb 256 k ≡ false) = or-false (eqb k 0) (ltb 256 k) (p .0) in
-    let aa : (eqb a 0 ≡ false) × (ltb k a ≡ false) = or-false (eqb a 0) (ltb k a) (q .0) in
-    let k0 : k ≡ 0 → ⊥ = eqb-false k 0 (kk .0) in
-    let k1 : k ≤ 256 = ltb-false 256 k (kk .1) in
-    let a0 : a ≡ 0 → ⊥ = eqb-false a 0 (aa .0) in
-    let a1 : a ≤ k = ltb-false k a (aa .1) in
-    (omega arith, (k1, (omega arith, a1)))
+    let right = sizes.sizes-right k a (sym e ∙ z) in
+    let low = right .a-low in
+    let high = right .a-high in
+    (omega arith, (right .k-high, (omega arith, high)))

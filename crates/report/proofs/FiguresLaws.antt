@@ -19,7 +19,7 @@ use Rattle.lru.specs.Refusing as lru
 use Rattle.lru.specs.declared.Totals as lru-totals
 use Rattle.layers.specs.Traces.{tabledAfter, nothingYet, traceTotals}
 use Rattle.layers.specs.declared.LayersTotals.{LayersTotals}
-use Rattle.layers.proofs.Refusing.{sizes-pass, sizes-taken}
+use Rattle.paging.proofs.Refusals.{sizes-pass, sizes-taken}
 use Rattle.layers.proofs.Steps.{trace-accepted, trace-counts, tabled-top}
 use Rattle.report.specs.Traces.{TraceFile, whole, damaged, traceFile}
 use Rattle.report.specs.Reading.{fileOf}

@@ -1,6 +1,7 @@
 use mathlib.Core.Path.{sym, _∙_}
 use native.Mathlib.Omega.{arith}
-use Rattle.layers.proofs.Refusing.{state-sizes, state-uneven, state-ill, state-pass, sizes-right}
+use Rattle.layers.proofs.Refusing.{state-sizes, state-uneven, state-ill, state-pass}
+use Rattle.paging.proofs.Refusals.{sizes-right}
 use borrow.Author.Needs.{needs}
 use Rattle.layers.proofs.state_refusal.Statement.{statement}
 use Rattle.layers.proofs.state_refusal.Tie as tie
