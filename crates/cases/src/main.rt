@@ -6,10 +6,10 @@
 //   states     single LRU requests
 //   tables     single layers requests and questions
 //   judging    the judge of two files
-//   reading    the readers of records
+//   read       the readers of records
 //   writing    the writers of records
 mod judging;
-mod reading;
+mod read;
 mod show;
 mod sizes;
 mod states;
@@ -23,6 +23,6 @@ fn main() {
     states::all();
     tables::all();
     judging::all();
-    reading::all();
+    read::all();
     writing::all();
 }

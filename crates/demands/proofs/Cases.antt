@@ -1,27 +1,27 @@
 -- The ten cases that document 01 marks for proof ("The eight-request shift"), in one table of inputs and results with one theorem over it.
 -- Each entry is computed by the definitions that the promises cite.
 use Prim.Native.Nat.{ℕ}
-use mathlib.Core.Path.{_≡_, refl}
 use mathlib.Core.Bool.{Bool, true, false, not}
-use mathlib.Core.List.{List, [], _∷_, _++_}
-use lib.Dec.{eqb, leb, ltb}
+use mathlib.Core.List.{List, [], _∷_}
+use mathlib.Core.Path.{_≡_, refl}
+use lib.Dec.{eqb}
 use lib.ListN.{take, replicate}
-use Rattle.lists.specs.Choice.{pick, _and_, _or_}
+use Rattle.lists.specs.Choice.{_and_, _or_}
 use Rattle.lists.specs.Sorting.{rowBefore}
-use Rattle.paging.specs.Refusals.{sizesRefusal}
-use Rattle.paging.specs.Schedule.{Entry, ev, pf}
-use Rattle.paging.specs.Min.{farther}
 use Rattle.paging.specs.Layers.{breaksAt}
-use Rattle.min.specs.Answers as min
+use Rattle.paging.specs.Min.{farther}
+use Rattle.paging.specs.Refusals.{sizesRefusal}
+use Rattle.paging.specs.Rows.{rowsOf}
+use Rattle.paging.specs.Schedule.{Entry, ev, pf}
 use Rattle.lru.specs.Refusing as lru
 use Rattle.lru.specs.Standing.{Call, State, afterCalls}
-use Rattle.layers.specs.Formed as formed
 use Rattle.layers.specs.Calls.{stateRefusal, requestRefusal, requestReply, pagesNext, numbersNext}
-use Rattle.layers.specs.Rows.{rowsOf}
+use Rattle.layers.specs.Formed as formed
 use Rattle.layers.specs.Questions.{Verdict, refusedWith, possibleSet, countDiffers, broken, verdict, possibleRefusal, layersIn}
 use Rattle.layers.specs.Traces.{traceRefusal, traceTotals, pagesOver, numbersOver}
-use Rattle.demands.specs.LayersCalls.{LayersCall, request, LayersState, layersStart, layersAfterCalls}
+use Rattle.min.specs.Answers as min
 use Rattle.demands.specs.Demand3.{minEntries, lruStart}
+use Rattle.demands.specs.LayersCalls.{LayersCall, request, LayersState, layersStart, layersAfterCalls}
 
 samePages : List ℕ → List ℕ → Bool
 samePages [] [] = true

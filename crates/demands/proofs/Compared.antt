@@ -1,35 +1,31 @@
 -- The comparisons of demand 3 hold, for every k from 1 to 256 and a from 1 to k.
-use Prim.Native.Nat.{ℕ, _*_, _≤_}
+use Prim.Native.Nat.{ℕ, _≤_}
 use native.Mathlib.Omega.{arith}
-use mathlib.Core.Path.{_≡_, refl, ap, sym, _∙_}
-use mathlib.Core.Bool.{true}
 use mathlib.Core.List.{List, []}
+use mathlib.Core.Path.{_≡_, refl, ap, sym, _∙_}
 use lib.Dec.{ltb}
 use lib.ListN.{length}
 use lib.Seq.{take-append-seam}
 use borrow.Author.Tests.{ltb-false}
 use Rattle.lists.proofs.Choice.{cases}
-use Rattle.paging.specs.Refusals.{refuse}
-use Rattle.records.specs.Bytes.{traceBytes, scheduleBytes}
-use Rattle.min.specs.Answers.{traceRefusal, bytesRefusal, scheduleRefusal, minSchedule}
-use Rattle.judge.specs.Answer.{cost}
-use Rattle.judge.specs.Files.{judged}
-use Rattle.judge.proofs.ExactFiles.{sound, complete}
-use Rattle.paging.proofs.Refusals.{sizes-pass, sizes-taken}
-use Rattle.paging.specs.Policy.{bundleCount}
-use Rattle.paging.specs.Lru.{lruRule}
 use Rattle.paging.specs.Min.{bestCount}
+use Rattle.paging.specs.Refusals.{refuse}
+use Rattle.paging.proofs.Refusals.{sizes-pass, sizes-taken}
 use Rattle.theory.proofs.Best.{min-serves, min-costs-best, serving-costs-best, layers-count-best}
-use Rattle.theory.proofs.Possible.{possible-is-what-min-can-hold}
 use Rattle.theory.proofs.Lru.{lru-within-factor}
-use Rattle.theory.specs.Factor.{ceilDiv}
-use Rattle.lru.specs.Standing.{afterCalls, acceptedPages}
+use Rattle.theory.proofs.Possible.{possible-is-what-min-can-hold}
+use Rattle.records.specs.Bytes.{traceBytes, scheduleBytes}
+use Rattle.lru.specs.Standing.{acceptedPages}
 use Rattle.lru.specs.declared.Run.{Run}
 use Rattle.lru.proofs.Steps as lru
 use Rattle.layers.specs.declared.LayersRun.{LayersRun}
-use Rattle.layers.proofs.Steps.{Stands, yes-exactly}
-use Rattle.demands.specs.LayersCalls.{layersStart, layersAfterCalls, layersTrace}
+use Rattle.layers.proofs.Steps.{yes-exactly}
+use Rattle.min.specs.Answers.{traceRefusal, bytesRefusal, scheduleRefusal, minSchedule}
+use Rattle.judging.specs.Answer.{cost}
+use Rattle.judging.specs.Files.{judged}
+use Rattle.judging.proofs.ExactFiles.{sound, complete}
 use Rattle.demands.specs.Demand3.{Compares, Demand3, lruStart, minEntries, scheduleWritten}
+use Rattle.demands.specs.LayersCalls.{layersStart, layersAfterCalls, layersTrace}
 use Rattle.demands.proofs.LayersLists.{list-stands}
 
 -- MIN's schedule, and the judge's answer to it

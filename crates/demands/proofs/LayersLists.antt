@@ -1,12 +1,11 @@
 -- A list of calls to the layers, from the empty record and an unused table: the record and the table stand for the list's trace.
 use Prim.Native.Nat.{ℕ, _≤_}
-use mathlib.Core.Path.{_≡_, refl, sym, _∙_}
 use mathlib.Core.Bool.{Bool, true, false}
 use mathlib.Core.List.{List, [], _∷_, _++_, append-assoc, append-nil}
-use lib.Dec.{eqb}
+use mathlib.Core.Path.{_≡_, refl, sym, _∙_}
 use borrow.Author.Tests.{eqb-true, eqb-false}
 use Rattle.lists.specs.Choice.{pick}
-use Rattle.layers.specs.Calls.{requestReply, requestRefusal, pagesNext, numbersNext}
+use Rattle.layers.specs.Calls.{requestReply, pagesNext, numbersNext}
 use Rattle.layers.proofs.Steps.{Stands, start-stands, request-stands, refusal-keeps, reply-refusal}
 use Rattle.demands.specs.LayersCalls.{LayersCall, request, askRevealed, askPossible, LayersState, layersStart, requestAccepted, layersNext, layersAfterCalls, acceptedPage, layersTrace}
 

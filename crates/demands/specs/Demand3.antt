@@ -1,28 +1,28 @@
 -- Demand 3 (document 01, "What demand 3 compares"), whole: one record with a field for each of its sentences.
-use Prim.Native.Nat.{ℕ, _+_, _*_, _≤_}
+use Prim.Native.Nat.{ℕ, _*_, _≤_}
 use mathlib.Core.Bool.{true}
-use mathlib.Core.Path.{_≡_}
-use mathlib.Core.Logic.{_↔_}
 use mathlib.Core.List.{List, []}
+use mathlib.Core.Logic.{_↔_}
+use mathlib.Core.Path.{_≡_}
 use lib.ListN.{length, take}
 use Rattle.lists.specs.Pages.{distinct}
-use Rattle.paging.specs.Schedule.{Entry, serves, entriesCost}
-use Rattle.paging.specs.Policy.{bundles}
 use Rattle.paging.specs.Min.{minRule, bestCount}
-use Rattle.wire.specs.Numbers.{Bytes}
-use Rattle.records.specs.Bytes.{traceBytes, scheduleBytes}
-use Rattle.min.specs.Answers.{scheduleRefusal, scheduledOf, bytesOf}
-use Rattle.judge.specs.Answer.{cost}
-use Rattle.judge.specs.Files.{judged}
-use Rattle.judge.specs.LegalFiles.{LegalFiles}
+use Rattle.paging.specs.Policy.{bundles}
+use Rattle.paging.specs.Schedule.{Entry, serves, entriesCost}
 use Rattle.theory.specs.Factor.{ceilDiv}
 use Rattle.theory.specs.Possible.{CanHold}
+use Rattle.wire.specs.Numbers.{Bytes}
+use Rattle.records.specs.Bytes.{traceBytes, scheduleBytes}
 use Rattle.lru.specs.Serving.{emptyRun}
 use Rattle.lru.specs.Standing.{Call, State, afterCalls, acceptedPages}
 use Rattle.layers.specs.Questions.{PossibleTold}
 use Rattle.layers.specs.declared.PossibleAnswer.{PossibleAnswer}
 use Rattle.layers.specs.declared.PossibleAnswer.the-variants.{Yes}
-use Rattle.demands.specs.LayersCalls.{LayersCall, LayersState, layersStart, layersAfterCalls, layersTrace}
+use Rattle.min.specs.Answers.{scheduleRefusal, scheduledOf, bytesOf}
+use Rattle.judging.specs.Answer.{cost}
+use Rattle.judging.specs.Files.{judged}
+use Rattle.judging.specs.LegalFiles.{LegalFiles}
+use Rattle.demands.specs.LayersCalls.{LayersCall, layersStart, layersAfterCalls, layersTrace}
 
 -- MIN's bundles of a trace as EVs
 abbrev pub minEntries : (k a : ℕ) → (trace : List ℕ) → List Entry

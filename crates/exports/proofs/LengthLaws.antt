@@ -1,8 +1,8 @@
 -- The length of the schedule that is written is at most that of the lent bytes, which a signed number of 64 bits holds.
 use Prim.Native.Nat.{ℕ, zero, suc, _≤_}
 use native.Mathlib.Omega.{arith}
-use mathlib.Core.Path.{_≡_, sym, ap, _∙_}
 use mathlib.Core.List.{List}
+use mathlib.Core.Path.{_≡_, sym, ap, _∙_}
 use lib.ListN.{length, drop, length-append}
 use Rattle.min.specs.Answers.{minSchedule, scheduledBy, bytesBy, scheduledOf, bytesOf, scheduleRefusal}
 use Rattle.min.specs.declared.Scheduled.{Scheduled}

@@ -1,11 +1,11 @@
 -- A figure, or a refusal's number made negative, as a signed number of 64 bits.
 use Prim.Native.Nat.{ℕ, zero, suc, _+_, _-_, _≤_, _<_, _^_}
 use native.Mathlib.Omega.{arith}
-use mathlib.Core.Path.{_≡_, refl, sym, ap, _∙_}
-use lib.IntN.{ℤ, pos, negsuc, negℤ, _-ℤ_, +ℤ-idl}
+use mathlib.Core.Path.{_≡_, refl, _∙_}
+use lib.IntN.{pos, negℤ, _-ℤ_, +ℤ-idl}
+use mir.Facts.{toZ-pos, toZ-ofZ}
 use mir.Syntax.{w64}
 use mir.Val.{SFits, toZ, ofZ}
-use mir.Facts.{toZ-pos, toZ-ofZ}
 use Rattle.exports.specs.Signed.{signed}
 
 -- a figure in range

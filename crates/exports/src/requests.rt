@@ -2,8 +2,8 @@
 ghost use mathlib.Core.Path.{_≡_};
 ghost use Rattle.lru.specs.Refusing.{replyOf, cacheOf, evictedOf};
 ghost use Rattle.layers.specs.Calls.{requestReply, pagesNext, numbersNext};
-ghost use Rattle.exports.specs.Signed.{signed};
 ghost use Rattle.exports.specs.Runs.{lruRun, layersRun};
+ghost use Rattle.exports.specs.Signed.{signed};
 use crate::signed::number;
 use layers::LayersRun;
 use lru::Run;

@@ -1,6 +1,6 @@
 // The signed number that every exported function answers.
-ghost use mathlib.Core.Path.{_≡_};
 ghost use Prim.Native.Nat.{_≤_};
+ghost use mathlib.Core.Path.{_≡_};
 ghost use Rattle.exports.specs.Signed.{signed};
 
 // The figure, or the refusal's number made negative; a refusal's number 0 stands for none.

@@ -1,20 +1,20 @@
 -- Laws behind the buffer: the pages held are the first n places of a list.
-use Prim.Native.Nat.{ℕ, zero, suc, _+_, _-_, _*_, _≤_, _<_}
+use Prim.Native.Nat.{ℕ, zero, suc, _+_, _-_, _≤_, _<_}
 use native.Mathlib.Numerals.{add-one}
 use native.Mathlib.Omega.{arith}
-use mathlib.Core.Path.{_≡_, refl, sym, ap, _∙_}
-use mathlib.Core.Bool.{Bool, true, false, not, false≢true}
+use mathlib.Core.Bool.{Bool, true, false, false≢true}
 use mathlib.Core.List.{List, [], _∷_, _++_, append-assoc}
-use lib.Dec.{eqb, leb, ltb}
-use lib.ListN.{length, take, drop, getD, set, length-append, length-drop}
+use mathlib.Core.Path.{_≡_, refl, sym, ap, _∙_}
+use lib.Dec.{eqb, ltb}
+use lib.ListN.{length, take, drop, set, length-append, length-drop}
 use lib.Seq.{length-take-le, take-suc-set, drop-drop, take-at}
-use Rattle.lists.specs.Choice.{pick, _and_, _or_}
+use Rattle.lists.specs.Choice.{_and_}
 use Rattle.lists.specs.Pages.{mem, erase, eraseAll}
 use Rattle.lists.specs.Places.{place, movedToEnd}
-use Rattle.lists.proofs.Choice.{cases, clash, tests}
+use Rattle.lists.proofs.Choice.{cases, tests}
 use Rattle.lists.proofs.Leaves.{mem-place}
-use Rattle.wire.specs.Numbers.{num32, nums32}
 use Rattle.paging.specs.Schedule.{heldInTurn, withPage}
+use Rattle.wire.specs.Numbers.{num32, nums32}
 
 module _ (p n : ℕ) (held : List ℕ) (h : n ≤ length held) where
   pub has-law : (r : ℕ) → r ≡ place p (take n held) → ltb r n ≡ mem p (take n held)

@@ -1,20 +1,17 @@
 -- Laws behind the loop that closes requests.
-use Prim.Native.Nat.{ℕ, zero, suc, _+_, _-_, _*_, _≤_, _<_}
+use Prim.Native.Nat.{ℕ, zero, suc, _+_, _-_, _≤_, _<_}
 use native.Mathlib.Omega.{arith}
-use mathlib.Core.Path.{_≡_, refl, sym, ap, _∙_}
-use mathlib.Core.Bool.{Bool, true, false}
 use mathlib.Core.List.{List, [], _∷_, _++_}
-use lib.Dec.{leb}
+use mathlib.Core.Path.{_≡_, refl, sym, ap, _∙_}
 use lib.ListN.{length, take, length-append}
 use lib.Seq.{length-take-le}
 use borrow.Author.Tests.{le-leb, lt-leb}
-use Rattle.lists.specs.Choice.{pick}
 use Rattle.lists.specs.Pages.{mem}
 use Rattle.lists.proofs.Choice.{cases}
 use Rattle.paging.specs.Schedule.{withPage}
-use Rattle.records.specs.Files.{File, requestsFrom, before}
-use Rattle.judge.specs.Judging.{Closed, closed, overfull, closing}
+use Rattle.reading.specs.Files.{File, requestsFrom, before}
 use Rattle.judge.specs.Fetches.{fetchedPages}
+use Rattle.judging.specs.Judging.{closed, overfull, closing}
 use Rattle.judge.proofs.FetchLaws.{length-fetched}
 
 -- One request

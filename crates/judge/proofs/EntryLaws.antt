@@ -1,30 +1,30 @@
 -- Laws behind one record of the schedule.
-use Prim.Native.Nat.{ℕ, zero, suc, _+_, _-_, _*_, _≤_, _<_}
+use Prim.Native.Nat.{ℕ, _+_, _-_, _*_, _≤_, _<_}
+use native.Mathlib.Numerals.{add-one}
 use native.Mathlib.Omega.{arith}
-use mathlib.Core.Path.{_≡_, refl, sym, ap, _∙_}
-use mathlib.Core.Bool.{Bool, true, false, not}
+use mathlib.Core.Bool.{Bool, true, false}
 use mathlib.Core.List.{List, [], _∷_, _++_, append-nil, append-assoc}
-use lib.Dec.{eqb, leb, ltb}
+use mathlib.Core.Path.{_≡_, refl, sym, _∙_}
+use lib.Dec.{leb, ltb}
 use lib.ListN.{length, take, drop}
 use borrow.Author.Tests.{eq-eqb, ne-eqb, lt-ltb}
-use native.Mathlib.Numerals.{add-one}
-use Rattle.lists.specs.Choice.{pick, _and_, _or_}
+use Rattle.lists.specs.Choice.{_and_, _or_}
 use Rattle.lists.specs.Pages.{mem, eraseAll}
-use Rattle.lists.proofs.Choice.{cases, tests, or-none, or-l, or-r}
-use Rattle.lists.proofs.Pages.{mem-append-l, mem-append-r}
+use Rattle.lists.proofs.Choice.{tests, or-none, or-l, or-r}
 use Rattle.lists.proofs.Leaves.{mem-append}
-use Rattle.wire.specs.Numbers.{num32}
+use Rattle.lists.proofs.Pages.{mem-append-l, mem-append-r}
 use Rattle.paging.specs.Schedule.{Entry, ev, pf, timeOf, heldInTurn}
-use Rattle.records.specs.Files.{requestsFrom}
+use Rattle.wire.specs.Numbers.{num32}
+use Rattle.reading.specs.Files.{requestsFrom}
 use Rattle.judge.specs.Fetches.{fetchedPages}
-use Rattle.judge.specs.Judging.{Standing, Step, on, stop, Closed, closed, overfull, closing, opened, acted, arrived, stepped}
+use Rattle.judging.specs.Judging.{Standing, Step, on, stop, closing, opened, acted, arrived, stepped}
 use Rattle.judge.specs.Places.{standing, Sound, SoundAt, SoundStep, stepOf, closingOf, Cursor, Moved}
+use Rattle.judge.specs.declared.closing.Closing as closings
+use Rattle.judge.specs.declared.closing.Closing.the-variants.{Open, Overfull}
 use Rattle.judge.specs.declared.entries.Place.{Place}
 use Rattle.judge.specs.declared.entries.Step as steps
 use Rattle.judge.specs.declared.entries.Step.the-variants.{On, Stop}
-use Rattle.judge.specs.declared.closing.Closing as closings
-use Rattle.judge.specs.declared.closing.Closing.the-variants.{Open, Overfull}
-use Rattle.judge.proofs.Exact.{closing-length}
+use Rattle.judging.proofs.Exact.{closing-length}
 use Rattle.judge.proofs.FetchLaws.{fetched-snoc}
 
 -- The way to a request

@@ -1,31 +1,29 @@
 -- Laws behind the start of both files: counting the trace's requests, and the schedule's first place.
-use Prim.Native.Nat.{ℕ, zero, suc, _+_, _-_, _*_, _≤_, _<_}
+use Prim.Native.Nat.{ℕ, _+_, _-_, _*_, _≤_, _<_}
+use native.Mathlib.Nat.{zero-add}
 use native.Mathlib.Omega.{arith}
-use native.Mathlib.Nat.{zero-add, add-zero}
+use mathlib.Core.List.{List, [], _∷_}
 use mathlib.Core.Path.{_≡_, refl, sym, ap, _∙_}
-use mathlib.Core.Bool.{Bool, true, false}
-use mathlib.Core.List.{List, [], _∷_, _++_}
 use lib.Dec.{eqb, ltb}
-use lib.ListN.{length, take}
+use lib.ListN.{length}
 use borrow.Author.Tests.{ne-eqb, eq-eqb, lt-ltb, le-ltb}
-use Rattle.lists.specs.Choice.{pick, _and_, _or_}
-use Rattle.lists.proofs.Choice.{cases, tests, or-none-l, or-none-r}
-use Rattle.paging.specs.Refusals.{refuse, sizesRefusal}
-use Rattle.records.specs.Reading as reading
-use Rattle.records.specs.Reading.{readTrace, readSchedule}
-use Rattle.records.specs.Answers.{traceAnswer, scheduleAnswer}
-use Rattle.records.specs.Files.{File, requestsFrom, entriesFrom, before, only}
-use Rattle.records.specs.declared.read.TraceRecord.{TraceRecord}
-use Rattle.records.specs.declared.read.TraceRecord.the-variants as traced
-use Rattle.records.specs.declared.read.ScheduleRecord.{ScheduleRecord}
-use Rattle.records.specs.declared.read.ScheduleRecord.the-variants as recorded
-use Rattle.records.proofs.Facts.{trace-says, schedule-says, KaAt, RqAt}
-use Rattle.records.proofs.Walk.{requests-refused, requests-ended, requests-request}
-use Rattle.judge.specs.Answer.{Answer, cost, refused}
-use Rattle.judge.specs.Judging.{judgedFrom, standsFirst}
-use Rattle.judge.specs.Files.{behindKa, behindRequests, longest, scheduleJudged, judged}
-use Rattle.judge.specs.Places.{standing, Sound}
-use Rattle.judge.specs.Verdicts.{placeAnswer, counts, Counts, requests, barred, countedIn, verdictAnswer}
+use Rattle.lists.specs.Choice.{_or_, _and_}
+use Rattle.lists.proofs.Choice.{cases, tests, or-none-r}
+use Rattle.paging.specs.Refusals.{sizesRefusal}
+use Rattle.reading.specs.Answers.{traceAnswer, scheduleAnswer}
+use Rattle.reading.specs.Files.{File, requestsFrom, before}
+use Rattle.reading.specs.Reading.{readTrace, readSchedule}
+use Rattle.reading.specs.Reading as reading
+use Rattle.reading.specs.declared.ScheduleRecord.{ScheduleRecord}
+use Rattle.reading.specs.declared.ScheduleRecord.the-variants as recorded
+use Rattle.reading.specs.declared.TraceRecord.{TraceRecord}
+use Rattle.reading.specs.declared.TraceRecord.the-variants as traced
+use Rattle.reading.proofs.Facts.{trace-says, schedule-says, KaAt, RqAt}
+use Rattle.reading.proofs.Walk.{requests-refused, requests-ended, requests-request}
+use Rattle.judging.specs.Answer.{Answer, refused}
+use Rattle.judging.specs.Files.{behindRequests, longest, scheduleJudged, judged}
+use Rattle.judge.specs.Places.{Sound}
+use Rattle.judge.specs.Verdicts.{placeAnswer, counts, requests, barred, countedIn}
 use Rattle.judge.specs.declared.entries.Place.{Place}
 use Rattle.judge.specs.declared.files.Counted.{Counted}
 use Rattle.judge.specs.declared.files.Counted.the-variants as counted

@@ -1,8 +1,5 @@
-pub mod Order
-pub mod Exact
 pub mod BufferLaws
 pub mod FetchLaws
-pub mod MarkLaws
 pub mod ClosingLaws
 pub mod EntryLaws
 pub mod ManyLaws
@@ -10,5 +7,3 @@ pub mod ReadLaws
 pub mod RunLaws
 pub mod FileLaws
 pub mod SignedLaws
-pub mod ExactFiles
-pub mod Examples

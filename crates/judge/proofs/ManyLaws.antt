@@ -1,43 +1,43 @@
 -- Laws behind reading on over the PFs of one request.
-use Prim.Native.Nat.{ℕ, zero, suc, _+_, _-_, _*_, _≤_, _<_}
+use Prim.Native.Nat.{ℕ, _+_, _-_, _*_, _≤_, _<_}
 use native.Mathlib.Omega.{arith}
-use mathlib.Core.Path.{_≡_, refl, sym, ap, _∙_}
 use mathlib.Core.Bool.{Bool, true, false}
 use mathlib.Core.List.{List, [], _∷_, _++_, append-assoc}
+use mathlib.Core.Path.{_≡_, refl, sym, ap, _∙_}
 use lib.Dec.{leb, ltb}
 use lib.ListN.{length, take, drop}
 use borrow.Author.Tests.{lt-ltb}
-use Rattle.lists.specs.Choice.{pick, _or_}
+use Rattle.lists.specs.Choice.{_or_}
 use Rattle.lists.specs.Pages.{mem}
 use Rattle.lists.proofs.Choice.{cases, tests, or-none-l, or-none-r}
-use Rattle.lists.proofs.Pages.{mem-append-l}
 use Rattle.lists.proofs.Leaves.{mem-append}
+use Rattle.lists.proofs.Pages.{mem-append-l}
+use Rattle.repeats.specs.Bits.{words, isMarked, withMark, AllMarked}
+use Rattle.repeats.proofs.BitLaws.{all-more, length-marked, unmarked}
+use Rattle.paging.specs.Schedule.{pf}
 use Rattle.wire.specs.Numbers.{num32}
-use Rattle.paging.specs.Schedule.{Entry, pf}
-use Rattle.records.specs.Reading as reading
-use Rattle.records.specs.Reading.{readSchedule}
-use Rattle.records.specs.Answers.{scheduleAnswer}
-use Rattle.records.specs.Files.{File, requestsFrom, entriesFrom, before}
-use Rattle.records.specs.declared.read.ScheduleRecord.{ScheduleRecord}
-use Rattle.records.specs.declared.read.ScheduleRecord.the-variants as recorded
-use Rattle.records.proofs.Facts.{schedule-says, PfAt}
-use Rattle.records.proofs.Walk.{entries-fetch}
-use Rattle.judge.specs.Answer.{refused}
+use Rattle.reading.specs.Answers.{scheduleAnswer}
+use Rattle.reading.specs.Files.{requestsFrom, entriesFrom, before}
+use Rattle.reading.specs.Reading.{readSchedule}
+use Rattle.reading.specs.Reading as reading
+use Rattle.reading.specs.declared.ScheduleRecord.{ScheduleRecord}
+use Rattle.reading.specs.declared.ScheduleRecord.the-variants as recorded
+use Rattle.reading.proofs.Facts.{schedule-says, PfAt}
+use Rattle.reading.proofs.Walk.{entries-fetch}
+use Rattle.judging.specs.Answer.{refused}
 use Rattle.judge.specs.Fetches.{fetchedPages}
-use Rattle.judge.specs.Judging.{Standing, Step, on, stop, Closed, closed, overfull, closing, opened, acted, andThen, arrived, stepped}
+use Rattle.judging.specs.Judging.{Standing, Step, on, stop, Closed, closed, overfull, closing, opened, acted, andThen, stepped}
+use Rattle.judge.specs.Many.{AheadIs, Ready, fetching, More, ReadOn, ReadyStep, ReadOnStep}
 use Rattle.judge.specs.Places.{standing, Sound, SoundStep}
-use Rattle.judge.specs.Verdicts.{placeAnswer, turnOf, SoundTurn, Onward}
-use Rattle.judge.specs.Marks.{words, isMarked, withMark, AllMarked}
-use Rattle.judge.specs.declared.many.Ahead.{Ahead}
-use Rattle.judge.specs.declared.many.Ahead.the-variants as ahead
-use Rattle.judge.specs.Many.{AheadIs, Ready, fetching, More, MoreStep, ReadOn, ReadyStep, ReadOnStep}
+use Rattle.judge.specs.Verdicts.{placeAnswer}
 use Rattle.judge.specs.declared.entries.Place.{Place}
 use Rattle.judge.specs.declared.entries.Step as steps
 use Rattle.judge.specs.declared.entries.Step.the-variants.{On, Stop}
-use Rattle.judge.proofs.Exact.{closing-length}
+use Rattle.judge.specs.declared.many.Ahead.{Ahead}
+use Rattle.judge.specs.declared.many.Ahead.the-variants as ahead
 use Rattle.judge.proofs.EntryLaws.{stays}
+use Rattle.judging.proofs.Exact.{closing-length}
 use Rattle.judge.proofs.FetchLaws.{fetched-snoc}
-use Rattle.judge.proofs.MarkLaws.{all-more, length-marked, unmarked}
 
 -- The record ahead
 

@@ -1,17 +1,17 @@
 -- What the records' readers tell the judge.
-use Prim.Native.Nat.{ℕ, zero, suc, _+_, _-_, _*_, _≤_, _<_}
+use Prim.Native.Nat.{ℕ, _-_, _<_}
 use native.Mathlib.Omega.{arith}
-use mathlib.Core.Path.{_≡_, refl, sym, ap, _∙_}
 use mathlib.Core.List.{List, [], _∷_}
-use lib.ListN.{length, drop}
-use Rattle.records.specs.Reading as reading
-use Rattle.records.specs.Reading.{readTrace}
-use Rattle.records.specs.Answers.{traceAnswer}
-use Rattle.records.specs.Files.{File, requestsFrom, before, only}
-use Rattle.records.specs.declared.read.TraceRecord.{TraceRecord}
-use Rattle.records.specs.declared.read.TraceRecord.the-variants as trace
-use Rattle.records.proofs.Facts.{trace-says}
-use Rattle.records.proofs.Walk.{requests-refused, requests-ended, requests-request}
+use mathlib.Core.Path.{_≡_, sym, ap, _∙_}
+use lib.ListN.{length}
+use Rattle.reading.specs.Answers.{traceAnswer}
+use Rattle.reading.specs.Files.{File, requestsFrom, before}
+use Rattle.reading.specs.Reading.{readTrace}
+use Rattle.reading.specs.Reading as reading
+use Rattle.reading.specs.declared.TraceRecord.{TraceRecord}
+use Rattle.reading.specs.declared.TraceRecord.the-variants as trace
+use Rattle.reading.proofs.Facts.{trace-says}
+use Rattle.reading.proofs.Walk.{requests-refused, requests-ended, requests-request}
 
 -- at a request of the trace its reader answers that request
 module _ (s : List ℕ) (at : ℕ) (z : 0 < at) (h : 0 < length (requestsFrom s at .held)) (r : TraceRecord) (e : traceAnswer r ≡ readTrace s at) where

@@ -1,37 +1,34 @@
 -- Laws behind the run over a schedule's records.
-use Prim.Native.Nat.{ℕ, zero, suc, _+_, _-_, _*_, _≤_, _<_}
+use Prim.Native.Nat.{ℕ, _+_, _-_, _*_, _≤_, _<_}
 use native.Mathlib.Omega.{arith}
-use mathlib.Core.Path.{_≡_, refl, sym, ap, _∙_}
-use mathlib.Core.Bool.{Bool, true, false}
 use mathlib.Core.List.{List, [], _∷_, _++_}
-use lib.Dec.{eqb}
+use mathlib.Core.Path.{_≡_, sym, ap, _∙_}
 use lib.ListN.{length, take, drop}
 use borrow.Author.Tests.{ne-eqb}
-use Rattle.lists.specs.Choice.{pick}
-use Rattle.paging.specs.Schedule.{Entry, ev, pf, timeOf}
-use Rattle.records.specs.Reading as reading
-use Rattle.records.specs.Reading.{readSchedule}
-use Rattle.records.specs.Answers.{scheduleAnswer}
-use Rattle.records.specs.Files.{File, requestsFrom, entriesFrom, before, only}
-use Rattle.records.specs.declared.read.ScheduleRecord.{ScheduleRecord}
-use Rattle.records.specs.declared.read.ScheduleRecord.the-variants as recorded
-use Rattle.records.proofs.Facts.{schedule-says, EvAt, PfAt}
-use Rattle.records.proofs.Walk.{entries-refused, entries-ended, entries-bundle, entries-fetch}
-use Rattle.wire.specs.Numbers.{num32, nums32}
-use Rattle.judge.specs.Answer.{Answer, cost, refused}
+use Rattle.paging.specs.Schedule.{Entry, ev, pf}
+use Rattle.wire.specs.Numbers.{nums32}
+use Rattle.reading.specs.Answers.{scheduleAnswer}
+use Rattle.reading.specs.Files.{requestsFrom, entriesFrom, before}
+use Rattle.reading.specs.Reading.{readSchedule}
+use Rattle.reading.specs.Reading as reading
+use Rattle.reading.specs.declared.ScheduleRecord.{ScheduleRecord}
+use Rattle.reading.specs.declared.ScheduleRecord.the-variants as recorded
+use Rattle.reading.proofs.Facts.{schedule-says, EvAt, PfAt}
+use Rattle.reading.proofs.Walk.{entries-refused, entries-ended, entries-bundle, entries-fetch}
+use Rattle.judging.specs.Answer.{Answer, cost, refused}
 use Rattle.judge.specs.Fetches.{fetchedPages}
-use Rattle.judge.specs.Judging.{Standing, Closed, closed, overfull, closing, stepped, ended, finished, judgedFrom}
-use Rattle.judge.specs.Places.{standing, Sound, SoundAt, SoundStep, stepOf, closingOf}
-use Rattle.judge.specs.Verdicts.{placeAnswer, turnOf, turnAnswer, SoundTurn, Onward, verdictAnswer, AtMost}
+use Rattle.judging.specs.Judging.{closing, stepped, ended}
 use Rattle.judge.specs.Many.{MoreStep, ReadOnStep}
-use Rattle.judge.specs.declared.run.Turn.{Turn}
-use Rattle.judge.specs.declared.run.Turn.the-variants as turn
-use Rattle.judge.specs.declared.run.Verdict.{Verdict}
+use Rattle.judge.specs.Places.{standing, Sound, SoundStep, stepOf, closingOf}
+use Rattle.judge.specs.Verdicts.{placeAnswer, turnOf, turnAnswer, SoundTurn, Onward, verdictAnswer, AtMost}
+use Rattle.judge.specs.declared.closing.Closing as closings
+use Rattle.judge.specs.declared.closing.Closing.the-variants.{Open, Overfull}
 use Rattle.judge.specs.declared.entries.Place.{Place}
 use Rattle.judge.specs.declared.entries.Step as steps
 use Rattle.judge.specs.declared.entries.Step.the-variants.{On, Stop}
-use Rattle.judge.specs.declared.closing.Closing as closings
-use Rattle.judge.specs.declared.closing.Closing.the-variants.{Open, Overfull}
+use Rattle.judge.specs.declared.run.Turn.{Turn}
+use Rattle.judge.specs.declared.run.Turn.the-variants as turn
+use Rattle.judge.specs.declared.run.Verdict.{Verdict}
 use Rattle.judge.proofs.ManyLaws.{stepped-more, more-sound}
 
 -- The end

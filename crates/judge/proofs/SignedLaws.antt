@@ -1,12 +1,12 @@
 -- The answer as a signed number of 64 bits.
 use Prim.Native.Nat.{ℕ, zero, suc, _+_, _-_, _≤_, _<_, _^_}
 use native.Mathlib.Omega.{arith}
-use mathlib.Core.Path.{_≡_, refl, sym, ap, _∙_}
-use lib.IntN.{ℤ, pos, negsuc, negℤ, _-ℤ_, +ℤ-idl}
+use mathlib.Core.Path.{_≡_, sym, ap, _∙_}
+use lib.IntN.{pos, negℤ, _-ℤ_, +ℤ-idl}
+use mir.Facts.{toZ-pos, toZ-ofZ}
 use mir.Syntax.{w64}
 use mir.Val.{SFits, toZ, ofZ}
-use mir.Facts.{toZ-pos, toZ-ofZ}
-use Rattle.judge.specs.Answer.{answerNumber, cost, refused}
+use Rattle.judging.specs.Answer.{answerNumber}
 use Rattle.judge.specs.Verdicts.{verdictAnswer, AtMost}
 use Rattle.judge.specs.declared.run.Verdict.{Verdict}
 use Rattle.judge.specs.declared.run.Verdict.the-variants as verdict

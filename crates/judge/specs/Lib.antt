@@ -1,9 +1,4 @@
-pub mod Answer
-pub mod Judging
 pub mod Fetches
-pub mod Files
-pub mod LegalFiles
-pub mod Marks
 pub mod Places
 pub mod Verdicts
 pub mod Many

@@ -1,11 +1,11 @@
 -- Reading on over PFs of the open request: what is asked of the place, and what stays the same.
 use Prim.Native.Nat.{ℕ, _+_, _*_, _≤_, _<_}
-use mathlib.Core.Path.{_≡_}
 use mathlib.Core.List.{List}
+use mathlib.Core.Path.{_≡_}
 use lib.ListN.{length}
-use Rattle.records.specs.Files.{requestsFrom}
-use Rattle.records.specs.Reading as reading
-use Rattle.records.specs.Reading.{readSchedule}
+use Rattle.reading.specs.Files.{requestsFrom}
+use Rattle.reading.specs.Reading.{readSchedule}
+use Rattle.reading.specs.Reading as reading
 use Rattle.judge.specs.Verdicts.{placeAnswer, turnOf, turnAnswer}
 use Rattle.judge.specs.declared.entries.Place.{Place}
 use Rattle.judge.specs.declared.entries.Step as steps

@@ -1,19 +1,18 @@
 -- What the judge's code keeps, and the definitions' values that it stands for.
 use Prim.Native.Nat.{ℕ, _+_, _*_, _≤_, _<_}
-use mathlib.Core.Path.{_≡_}
-use mathlib.Core.Bool.{Bool}
 use mathlib.Core.List.{List, _++_}
+use mathlib.Core.Path.{_≡_}
 use lib.Dec.{ltb}
 use lib.ListN.{length, take}
-use Rattle.records.specs.Files.{requestsFrom}
+use Rattle.reading.specs.Files.{requestsFrom}
 use Rattle.judge.specs.Fetches.{fetchedPages}
-use Rattle.judge.specs.Judging as judging
-use Rattle.judge.specs.Judging.{Standing}
+use Rattle.judging.specs.Judging.{Standing}
+use Rattle.judging.specs.Judging as judging
+use Rattle.judge.specs.declared.closing.Closing as closings
+use Rattle.judge.specs.declared.closing.Closing.the-variants as closing
 use Rattle.judge.specs.declared.entries.Place.{Place}
 use Rattle.judge.specs.declared.entries.Step as steps
 use Rattle.judge.specs.declared.entries.Step.the-variants as step
-use Rattle.judge.specs.declared.closing.Closing as closings
-use Rattle.judge.specs.declared.closing.Closing.the-variants as closing
 
 abbrev pub standing : (trace schedule held : List ℕ) → Place → Standing
 standing trace schedule held p =

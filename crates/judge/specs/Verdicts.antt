@@ -4,20 +4,20 @@ use mathlib.Core.List.{List}
 use lib.Dec.{eqb, ltb}
 use lib.ListN.{length}
 use Rattle.lists.specs.Choice.{pick}
-use Rattle.records.specs.Files.{File, entriesFrom}
-use Rattle.judge.specs.Answer.{Answer, cost, refused}
-use Rattle.judge.specs.Judging.{judgedFrom}
-use Rattle.judge.specs.Files.{longest}
+use Rattle.reading.specs.Files.{File, entriesFrom}
+use Rattle.judging.specs.Answer.{Answer, cost, refused}
+use Rattle.judging.specs.Files.{longest}
+use Rattle.judging.specs.Judging.{judgedFrom}
 use Rattle.judge.specs.Places.{standing, Sound}
 use Rattle.judge.specs.declared.entries.Place.{Place}
 use Rattle.judge.specs.declared.entries.Step as steps
 use Rattle.judge.specs.declared.entries.Step.the-variants as step
-use Rattle.judge.specs.declared.run.Verdict.{Verdict}
-use Rattle.judge.specs.declared.run.Verdict.the-variants as verdict
-use Rattle.judge.specs.declared.run.Turn.{Turn}
-use Rattle.judge.specs.declared.run.Turn.the-variants as turn
 use Rattle.judge.specs.declared.files.Counted.{Counted}
 use Rattle.judge.specs.declared.files.Counted.the-variants as counted
+use Rattle.judge.specs.declared.run.Turn.{Turn}
+use Rattle.judge.specs.declared.run.Turn.the-variants as turn
+use Rattle.judge.specs.declared.run.Verdict.{Verdict}
+use Rattle.judge.specs.declared.run.Verdict.the-variants as verdict
 
 abbrev pub verdictAnswer : Verdict → Answer
 verdictAnswer (verdict.Cost bundles) = cost bundles

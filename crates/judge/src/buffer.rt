@@ -1,12 +1,11 @@
 // The pages held: the first n places of a lent list.
-ghost use mathlib.Core.Path.{_≡_};
+ghost use Prim.Native.Nat.{_+_, _-_, _*_, _≤_};
 ghost use mathlib.Core.Bool.{true};
-ghost use mathlib.Core.List.{_++_};
-ghost use Prim.Native.Nat.{_+_, _-_, _*_, _≤_, _<_};
+ghost use mathlib.Core.Path.{_≡_};
 ghost use lib.ListN.{length, take, drop};
 ghost use Rattle.lists.specs.Pages.{mem, erase, eraseAll};
-ghost use Rattle.wire.specs.Numbers.{nums32};
 ghost use Rattle.paging.specs.Schedule.{heldInTurn, withPage};
+ghost use Rattle.wire.specs.Numbers.{nums32};
 
 // Whether the page is held.
 pub(crate) fn has(held: &[u32], n: usize, page: u32) -> bool

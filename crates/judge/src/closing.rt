@@ -1,16 +1,16 @@
 // Closing requests, one by one, with a cursor into the trace's file.
-ghost use mathlib.Core.Path.{_≡_};
-ghost use mathlib.Core.List.{[], _∷_, _++_};
 ghost use Prim.Native.Nat.{_+_, _*_, _≤_, _<_};
+ghost use mathlib.Core.List.{[], _∷_, _++_};
+ghost use mathlib.Core.Path.{_≡_};
 ghost use lib.ListN.{length, take};
-ghost use Rattle.records.specs.Files.{requestsFrom, before};
+ghost use Rattle.reading.specs.Files.{requestsFrom, before};
 ghost use Rattle.judge.specs.Fetches.{fetchedPages};
-ghost use Rattle.judge.specs.Judging.{closing};
+ghost use Rattle.judging.specs.Judging.{closing};
 ghost use Rattle.judge.specs.Places.{closingOf, Cursor};
 use crate::buffer::add;
 use crate::fetches::settle;
-use records::read::TraceRecord;
-use records::read::trace as trace_record;
+use reading::TraceRecord;
+use reading::trace as trace_record;
 
 // A request of the trace, and the offset behind its record.
 pub(crate) struct Request {

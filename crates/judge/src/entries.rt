@@ -1,10 +1,10 @@
 // One record of the schedule: the way to its request, then what it does there.
-ghost use mathlib.Core.Path.{_≡_};
 ghost use Prim.Native.Nat.{_+_, _*_, _≤_, _<_};
+ghost use mathlib.Core.Path.{_≡_};
 ghost use lib.ListN.{length, drop};
-ghost use Rattle.wire.specs.Numbers.{num32, nums32};
 ghost use Rattle.paging.specs.Schedule.{ev, pf};
-ghost use Rattle.judge.specs.Judging.{arrived, stepped};
+ghost use Rattle.wire.specs.Numbers.{num32, nums32};
+ghost use Rattle.judging.specs.Judging.{arrived, stepped};
 ghost use Rattle.judge.specs.Places.{standing, stepOf, Sound, SoundStep};
 use crate::buffer::evict;
 use crate::buffer::has;

@@ -1,7 +1,7 @@
 // The PFs of the open request: `count` records from an offset of the schedule on. There may be any number of them.
-ghost use mathlib.Core.Path.{_≡_};
-ghost use mathlib.Core.List.{_++_};
 ghost use Prim.Native.Nat.{_+_, _*_, _≤_};
+ghost use mathlib.Core.List.{_++_};
+ghost use mathlib.Core.Path.{_≡_};
 ghost use lib.ListN.{length, take};
 ghost use Rattle.lists.specs.Pages.{mem};
 ghost use Rattle.judge.specs.Fetches.{fetchedPages};

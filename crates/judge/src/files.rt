@@ -1,19 +1,19 @@
 // Both files: the trace first, its KA and its requests; then the schedule's KA and its records.
-ghost use mathlib.Core.Path.{_≡_};
 ghost use Prim.Native.Nat.{_≤_, _<_};
+ghost use mathlib.Core.Path.{_≡_};
 ghost use lib.ListN.{length};
-ghost use Rattle.records.specs.Files.{requestsFrom};
-ghost use Rattle.judge.specs.Answer.{answerNumber};
-ghost use Rattle.judge.specs.Files.{judged, scheduleJudged};
+ghost use Rattle.reading.specs.Files.{requestsFrom};
+ghost use Rattle.judging.specs.Answer.{answerNumber};
+ghost use Rattle.judging.specs.Files.{judged, scheduleJudged};
 ghost use Rattle.judge.specs.Verdicts.{verdictAnswer, countedIn, counts, AtMost};
 use crate::entries::Place;
 use crate::run::Verdict;
 use crate::run::run;
 use paging::Trace;
-use records::read::ScheduleRecord;
-use records::read::TraceRecord;
-use records::read::schedule_within;
-use records::read::trace as trace_record;
+use reading::ScheduleRecord;
+use reading::TraceRecord;
+use reading::schedule_within;
+use reading::trace as trace_record;
 
 // How many requests a trace has, or its refusal.
 pub(crate) enum Counted {

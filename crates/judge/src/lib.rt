@@ -4,12 +4,11 @@
 //   closing   closing requests, with a cursor into the trace
 //   entries   one record of the schedule: the way to its request, then what it does there
 //   many      more PFs at one request than a buffer holds
-//   marks     marks for pages, which rule pages out
 //   run       all records of the schedule
 //   files     both files, from their first bytes on
 ghost use mathlib.Core.Path.{_≡_};
-ghost use Rattle.judge.specs.Answer.{answerNumber};
-ghost use Rattle.judge.specs.Files.{judged};
+ghost use Rattle.judging.specs.Answer.{answerNumber};
+ghost use Rattle.judging.specs.Files.{judged};
 
 mod buffer;
 mod closing;
@@ -17,7 +16,6 @@ mod entries;
 mod fetches;
 mod files;
 mod many;
-mod marks;
 mod run;
 
 // The cost of the schedule, or the refusal's number made negative.

@@ -1,22 +1,22 @@
 // More PFs at one request than a buffer holds. No legal schedule has them, but which refusal it is hangs on each of them: 6 where one's page
 // is held already. Marks rule nearly every page out, so that the PFs before it are looked at one by one only where marks meet.
-ghost use mathlib.Core.Path.{_≡_};
-ghost use mathlib.Core.List.{_++_};
 ghost use Prim.Native.Nat.{_+_, _*_, _≤_};
+ghost use mathlib.Core.List.{_++_};
+ghost use mathlib.Core.Path.{_≡_};
 ghost use lib.ListN.{length, take};
 ghost use Rattle.lists.specs.Pages.{mem};
+ghost use Rattle.repeats.specs.Bits.{words, AllMarked};
 ghost use Rattle.judge.specs.Fetches.{fetchedPages};
 ghost use Rattle.judge.specs.Many.{AheadIs, Ready, ReadOn, ReadyStep, ReadOnStep};
-ghost use Rattle.judge.specs.Marks.{words, AllMarked};
 use crate::buffer::has;
 use crate::entries::Place;
 use crate::entries::Step;
 use crate::fetches::fetched;
-use crate::marks::WORDS;
-use crate::marks::mark;
-use crate::marks::marked;
-use records::read::ScheduleRecord;
-use records::read::schedule_within;
+use reading::ScheduleRecord;
+use reading::schedule_within;
+use repeats::bits::WORDS;
+use repeats::bits::mark;
+use repeats::bits::marked;
 
 // The most pages of any buffer.
 const BUFFER: usize = paging::Sizes::K_MAX as usize;

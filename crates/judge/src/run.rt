@@ -1,8 +1,8 @@
 // All records of the schedule, one after the other.
-ghost use mathlib.Core.Path.{_≡_};
 ghost use Prim.Native.Nat.{_≤_};
+ghost use mathlib.Core.Path.{_≡_};
 ghost use lib.ListN.{length};
-ghost use Rattle.judge.specs.Judging.{ended};
+ghost use Rattle.judging.specs.Judging.{ended};
 ghost use Rattle.judge.specs.Places.{standing, Sound};
 ghost use Rattle.judge.specs.Verdicts.{verdictAnswer, turnOf, turnAnswer, placeAnswer, SoundTurn, AtMost};
 use crate::closing::Closing;
@@ -12,8 +12,8 @@ use crate::entries::Step;
 use crate::entries::bundle;
 use crate::entries::fetch;
 use crate::many::after;
-use records::read::ScheduleRecord;
-use records::read::schedule_within;
+use reading::ScheduleRecord;
+use reading::schedule_within;
 
 pub(crate) enum Verdict {
     Cost(usize),

@@ -1,34 +1,32 @@
 -- The questions: reading the sizes, and that what is read is what the definitions say.
 use Prim.Native.Nat.{ℕ, zero, suc, _+_, _-_, _≤_, _<_}
-use mathlib.Core.Path.{_≡_, refl, sym, ap, _∙_}
-use mathlib.Core.Bool.{Bool, true, false, not}
-use mathlib.Core.List.{List, [], _∷_, _++_, map}
-use native.Mathlib.Omega.{arith}
 use native.Mathlib.Numerals.{add-one}
+use native.Mathlib.Omega.{arith}
+use mathlib.Core.Bool.{Bool, true, false, not}
+use mathlib.Core.List.{List, [], _∷_, map}
+use mathlib.Core.Path.{_≡_, refl, sym, ap, _∙_}
 use lib.Dec.{eqb, leb, ltb, leb·suc-suc}
-use lib.ListN.{length, take, drop, getD, length-map}
-use borrow.Author.Tests.{eq-eqb, ne-eqb, lt-ltb, le-ltb, le-leb, lt-leb, eqb-true, eqb-false}
-use Rattle.lists.specs.Choice.{pick, _and_, _or_}
-use Rattle.lists.specs.Pages.{count, bit, distinct, filter}
+use lib.ListN.{length, getD, length-map}
+use borrow.Author.Tests.{eq-eqb, ne-eqb, lt-ltb, le-ltb, le-leb, lt-leb, eqb-true}
+use Rattle.lists.specs.Pages.{count, bit, distinct}
 use Rattle.lists.specs.Sorting.{Row}
-use Rattle.lists.proofs.Choice.{tests, cases, clash, and-i, and-false-l, and-false-r, bit-true, bit-false, not-i}
+use Rattle.lists.proofs.Choice.{tests, cases, and-i, and-false-l, and-false-r, bit-false}
 use Rattle.lists.proofs.Pages.{count-sum, count-ext, count-length}
+use Rattle.paging.specs.Layers.{Layers, upTo, holdsUpTo}
 use Rattle.paging.specs.Refusals.{refuse}
-use Rattle.paging.specs.Layers.{Layers, upTo, breaksAt, holdsUpTo}
-use Rattle.paging.specs.Table.{numberIn, aboveZero, sizeOf, revealed}
-use Rattle.theory.proofs.Table.{numberIn-aboveZero}
-use Rattle.layers.specs.Rows.{rowsOf, usedRows}
-use Rattle.layers.specs.Formed.{wellFormed, noneAbove}
-use Rattle.layers.specs.Sizes.{timesIn, Tallied, numbered, sumBelow, Walked}
+use Rattle.paging.specs.Rows.{rowsOf, usedRows}
+use Rattle.paging.specs.Table.{numberIn, sizeOf, revealed}
+use Rattle.paging.proofs.Table.{numberIn-aboveZero}
 use Rattle.layers.specs.Calls.{stateRefusal}
-use Rattle.layers.specs.Questions.{revealedReply, RevealedTold, layersIn, Verdict, refusedWith, possibleSet, countDiffers, broken, verdictOf, judged, possibleRefusal, verdict, PossibleTold}
+use Rattle.layers.specs.Formed.{noneAbove}
+use Rattle.layers.specs.Questions.{revealedReply, RevealedTold, layersIn, possibleRefusal, verdict, PossibleTold}
+use Rattle.layers.specs.Sizes.{Tallied, numbered, sumBelow, Walked}
 use Rattle.layers.specs.declared.LayersRun.{LayersRun}
-use Rattle.layers.specs.declared.RevealedReply.{RevealedReply}
 use Rattle.layers.specs.declared.PossibleAnswer.{PossibleAnswer}
 use Rattle.layers.specs.declared.PossibleAnswer.the-variants.{Yes, CountDiffers, BrokenAt, Refused}
-use Rattle.layers.proofs.WellFormed.{facts, size-times, size-numbered}
-use Rattle.layers.proofs.Refusing.{Ready, state-pass, state-fall, sound}
 use Rattle.layers.proofs.Order.{ordered-sorted, revealed-last}
+use Rattle.layers.proofs.Refusing.{Ready, state-pass, state-fall, sound}
+use Rattle.layers.proofs.WellFormed.{facts, size-times, size-numbered}
 
 -- Revealed pages: the layers from s down
 

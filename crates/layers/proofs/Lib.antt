@@ -1,6 +1,3 @@
-pub mod Rows
-pub mod MergeLaws
-pub mod Serving
 pub mod Reading
 pub mod WellFormed
 pub mod Refusing
@@ -10,5 +7,3 @@ pub mod Forming
 pub mod Steps
 pub mod TraceLaws
 pub mod OverLaws
-pub mod QuickLaws
-pub mod LiftLaws

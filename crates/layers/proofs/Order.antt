@@ -1,21 +1,19 @@
 -- The order of a table's used rows: they are sorted, and those of the top layers come last.
-use Prim.Native.Nat.{ℕ, zero, suc, _+_, _-_, _≤_, _<_}
-use mathlib.Core.Path.{_≡_, refl, sym, ap, _∙_}
-use mathlib.Core.Bool.{Bool, true, false, not}
-use mathlib.Core.Logic.{_⊎_, inl, inr}
-use mathlib.Core.List.{List, [], _∷_, _++_}
+use Prim.Native.Nat.{ℕ, zero, suc, _+_, _-_, _<_}
 use native.Mathlib.Omega.{arith}
-use lib.Dec.{eqb, leb, ltb}
-use lib.ListN.{length, take, drop, replicate}
-use borrow.Author.Tests.{eq-eqb, ne-eqb, lt-ltb, le-ltb, le-leb, lt-leb, eqb-true, eqb-false}
-use Rattle.lists.specs.Choice.{pick, _and_, _or_}
-use Rattle.lists.specs.Pages.{count, bit, filter}
+use mathlib.Core.Bool.{true, false, not}
+use mathlib.Core.List.{List, [], _∷_}
+use mathlib.Core.Path.{_≡_, refl, sym, ap, _∙_}
+use lib.Dec.{eqb, ltb}
+use lib.ListN.{length, drop}
+use borrow.Author.Tests.{eqb-true}
+use Rattle.lists.specs.Pages.{count, filter}
 use Rattle.lists.specs.Sorting.{Row, rowBefore}
-use Rattle.lists.proofs.Choice.{tests, cases, split, clash, and-l, and-r, or-split, bit-true, bit-false}
+use Rattle.lists.proofs.Choice.{tests, cases, split, and-l, and-r, or-split, bit-true, bit-false}
 use Rattle.lists.proofs.Pages.{count-not}
 use Rattle.lists.proofs.Sorting.{Least, Sorted, least-onward, row-split, row-not-before, row-order}
+use Rattle.paging.specs.Rows.{usedRows}
 use Rattle.paging.specs.Table.{aboveZero, sizeOf, revealed}
-use Rattle.layers.specs.Rows.{unused, usedRows}
 use Rattle.layers.specs.Formed.{isUnused, follows, ordered, orderedBehind, noneAbove}
 use Rattle.layers.specs.Questions.{topRows}
 use Rattle.layers.proofs.WellFormed.{unused-behind, used-blank}

@@ -1,29 +1,29 @@
 -- The layers over a whole trace: what is refused before the first request, a table too small on the way, and the table at the end.
-use Prim.Native.Nat.{ℕ, zero, suc, _+_, _-_, _≤_, _<_}
+use Prim.Native.Nat.{ℕ, _-_, _≤_}
 use native.Mathlib.Omega.{arith}
-use mathlib.Core.Path.{_≡_, refl, sym, ap, _∙_}
 use mathlib.Core.Bool.{Bool, true, false, not}
-use mathlib.Core.List.{List, [], _∷_, _++_}
+use mathlib.Core.List.{List, [], _∷_}
+use mathlib.Core.Path.{_≡_, refl, sym, ap, _∙_}
 use lib.Dec.{eqb, ltb}
 use lib.ListN.{length, replicate}
 use borrow.Author.Tests.{ne-eqb, eqb-true, eqb-false, ltb-false, not-false}
-use Rattle.lists.specs.Choice.{pick, _and_, _or_}
+use Rattle.lists.specs.Choice.{pick}
 use Rattle.lists.specs.Sorting.{Row}
 use Rattle.lists.proofs.Choice.{cases, and-l, and-r}
 use Rattle.paging.specs.Refusals.{refuse, sizesRefusal}
-use Rattle.paging.specs.Table.{revealed}
-use Rattle.layers.specs.Rows.{rowsOf, rowAt, numbersOf, pagesOf, unused, usedRows, tableOf}
+use Rattle.paging.specs.Rows.{rowsOf, numbersOf, pagesOf, unused, usedRows, tableOf}
+use Rattle.paging.specs.Table.{revealed, nothingYet, tabledAfter}
+use Rattle.paging.proofs.Forming.{used-table}
+use Rattle.paging.proofs.Refusals.{SizesRight, sizes-right, sizes-pass, sizes-fall}
+use Rattle.paging.proofs.Rows.{numbers-back, pages-back}
+use Rattle.table.specs.Serving.{Sound}
 use Rattle.layers.specs.Formed.{isUnused}
-use Rattle.layers.specs.Serving.{Sound}
-use Rattle.layers.specs.Sizes.{numbered}
-use Rattle.layers.specs.Traces.{nothingYet, tabledAfter, overflows, allUnused, traceRefusal, traceTotals, pagesOver, numbersOver}
 use Rattle.layers.specs.Over.{ServedTo, earlyRefusal}
+use Rattle.layers.specs.Sizes.{numbered}
+use Rattle.layers.specs.Traces.{overflows, allUnused, traceRefusal, traceTotals, pagesOver, numbersOver}
 use Rattle.layers.specs.declared.LayersTotals.{LayersTotals}
 use Rattle.layers.specs.declared.trace.Served.{Served}
-use Rattle.layers.proofs.Rows.{numbers-back, pages-back}
-use Rattle.paging.proofs.Refusals.{SizesRight, sizes-right, sizes-pass, sizes-fall}
 use Rattle.layers.proofs.Asking.{revealed-used}
-use Rattle.layers.proofs.Forming.{used-table}
 use Rattle.layers.proofs.Steps.{tabled-formed}
 
 zero-pass : (b : Bool) (number rest : ℕ) → (number ≡ 0 → ⊥) → refuse b number rest ≡ 0 → (b ≡ false) × (rest ≡ 0)

@@ -1,24 +1,24 @@
 -- The loops that read a table for refusal 9: one turn of each, and what they tell at the end.
 use Prim.Native.Nat.{ℕ, zero, suc, _+_, _-_, _≤_, _<_}
-use mathlib.Core.Path.{_≡_, refl, sym, ap, _∙_}
-use mathlib.Core.Bool.{Bool, true, false, not}
-use mathlib.Core.List.{List, [], _∷_, _++_}
-use native.Mathlib.Omega.{arith}
 use native.Mathlib.Numerals.{add-one}
-use lib.Dec.{eqb, leb, ltb}
-use lib.ListN.{length, take, drop, getD, set, replicate, drop-of-length-le, length-set, length-append, getD-replicate, length-replicate}
-use lib.Seq.{drop-cons, take-suc, take-all, getD-set-same, getD-set-other, length-take-le, take-append-le}
-use borrow.Author.Tests.{eq-eqb, ne-eqb, lt-ltb, le-ltb, le-leb, lt-leb, eqb-true, eqb-false}
-use Rattle.lists.specs.Choice.{pick, _and_, _or_}
+use native.Mathlib.Omega.{arith}
+use mathlib.Core.Bool.{Bool, true, false}
+use mathlib.Core.List.{List, [], _∷_}
+use mathlib.Core.Path.{_≡_, refl, sym, ap, _∙_}
+use lib.Dec.{eqb, ltb}
+use lib.ListN.{length, take, drop, getD, set, replicate, drop-of-length-le, length-set, getD-replicate, length-replicate}
+use lib.Seq.{drop-cons, take-suc, take-all, getD-set-same, getD-set-other, length-take-le}
+use borrow.Author.Tests.{ne-eqb, lt-ltb, le-ltb, le-leb, lt-leb, eqb-true, eqb-false}
+use Rattle.lists.specs.Choice.{_and_, _or_}
 use Rattle.lists.specs.Pages.{count, bit}
 use Rattle.lists.specs.Sorting.{Row, rowBefore}
 use Rattle.lists.proofs.Choice.{tests, cases, and-false-l, or-l, bit-true}
-use Rattle.lists.proofs.Pages.{count-snoc, count-append, count-length}
+use Rattle.lists.proofs.Pages.{count-snoc, count-length}
+use Rattle.paging.specs.Rows.{rowAt, rowsOf, unused}
 use Rattle.paging.specs.Table.{aboveZero}
-use Rattle.layers.specs.Rows.{rowAt, rowsOf, unused}
+use Rattle.paging.proofs.Rows.{rows-length, rows-get}
 use Rattle.layers.specs.Formed.{isUnused, follows, ordered, orderedBehind}
-use Rattle.layers.specs.Sizes.{timesIn, Tallied, presentIn, singleIn}
-use Rattle.layers.proofs.Rows.{rows-length, rows-get}
+use Rattle.layers.specs.Sizes.{Tallied, presentIn, singleIn}
 
 pub and-true : (a b : Bool) → a ≡ true → (a and b) ≡ b
 unfolding _and_

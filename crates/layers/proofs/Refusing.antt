@@ -1,29 +1,28 @@
 -- The refusals of the calls: which one falls, and what is known where none does.
-use Prim.Native.Nat.{ℕ, zero, suc, _+_, _-_, _≤_, _<_}
-use mathlib.Core.Path.{_≡_, refl, sym, ap, _∙_}
-use mathlib.Core.Bool.{Bool, true, false, not}
-use mathlib.Core.List.{List, [], _∷_, _++_}
+use Prim.Native.Nat.{ℕ, _+_, _-_, _≤_}
 use native.Mathlib.Omega.{arith}
-use lib.Dec.{eqb, leb, ltb}
+use mathlib.Core.Bool.{true, false, not}
+use mathlib.Core.List.{List}
+use mathlib.Core.Path.{_≡_, refl, sym, ap, _∙_}
+use lib.Dec.{eqb, ltb}
 use lib.ListN.{length}
-use borrow.Author.Tests.{eq-eqb, ne-eqb, lt-ltb, le-ltb, le-leb, lt-leb, eqb-true, eqb-false, leb-true, not-false}
-use Rattle.lists.specs.Choice.{pick, _and_, _or_}
+use borrow.Author.Tests.{eq-eqb, ne-eqb, eqb-true, eqb-false, leb-true, not-false}
+use Rattle.lists.specs.Choice.{pick}
 use Rattle.lists.specs.Pages.{bit}
 use Rattle.lists.specs.Sorting.{Row}
-use Rattle.lists.proofs.Choice.{tests, cases, or-none-l, or-none-r, clash}
-use Rattle.paging.specs.Refusals.{refuse, sizesRefusal}
-use Rattle.paging.proofs.Refusals.{fall, pass, zero-pass, sizes-pass, sizes-fall, sizes-zero, SizesRight, sizes-right, sizes-taken}
+use Rattle.lists.proofs.Choice.{cases, clash}
 use Rattle.paging.specs.Layers.{isJoin, topAfter}
-use Rattle.paging.specs.Table.{ruleIn, rowsAfter}
-use Rattle.layers.specs.Rows.{rowsOf, numbersOf, pagesOf, usedRows, tableOf}
+use Rattle.paging.specs.Refusals.{sizesRefusal}
+use Rattle.paging.specs.Rows.{rowsOf, numbersOf, pagesOf, usedRows, tableOf}
+use Rattle.paging.specs.Table.{ruleIn}
+use Rattle.paging.proofs.Refusals.{zero-pass, sizes-pass, sizes-fall, sizes-zero, SizesRight, sizes-right, sizes-taken}
+use Rattle.paging.proofs.Rows.{numbers-back, pages-back}
+use Rattle.table.specs.Serving.{Sound, SteppedTo, ruleOf}
+use Rattle.table.specs.declared.Stepped.{Stepped}
+use Rattle.table.proofs.Serving.{used-rows, used-rule}
+use Rattle.layers.specs.Calls.{stateRefusal, requestRefusal, requestReply, pagesNext, numbersNext, refused, rowsNext}
 use Rattle.layers.specs.Formed.{wellFormed}
-use Rattle.layers.specs.Calls.{ruleOf, stateRefusal, requestRefusal, requestReply, pagesNext, numbersNext, refused, runNext, rowsNext}
-use Rattle.layers.specs.Serving.{Sound, SteppedTo}
 use Rattle.layers.specs.declared.LayersRun.{LayersRun}
-use Rattle.layers.specs.declared.LayersReply.{LayersReply}
-use Rattle.layers.specs.declared.table.Stepped.{Stepped}
-use Rattle.layers.proofs.Rows.{numbers-back, pages-back}
-use Rattle.layers.proofs.Serving.{used-rows, used-rule}
 use Rattle.layers.proofs.WellFormed.{facts}
 
 -- The state

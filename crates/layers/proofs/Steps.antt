@@ -1,66 +1,35 @@
 -- Calls one after the other: the record and the table that stand for a trace, from the empty state on. An accepted request leads to what
 -- stands for the longer trace, no such state is refused as ill formed, and a question is answered by the layers of the trace as a map.
 use Prim.Native.Nat.{ℕ, zero, suc, _+_, _-_, _≤_, _<_}
-use mathlib.Core.Bool.{Bool, true, false, not, false≢true}
-use mathlib.Core.Path.{_≡_, refl, sym, ap, subst, _∙_}
-use mathlib.Core.List.{List, [], _∷_, _++_}
 use native.Mathlib.Omega.{arith}
+use mathlib.Core.Bool.{Bool, true, false, not, false≢true}
+use mathlib.Core.List.{List, [], _∷_, _++_}
+use mathlib.Core.Path.{_≡_, refl, sym, ap, subst, _∙_}
 use lib.Dec.{eqb, ltb}
 use lib.ListN.{length, replicate, length-append, length-replicate}
 use borrow.Author.Tests.{eq-eqb, ne-eqb, le-ltb, ltb-false}
 use Rattle.lists.specs.Choice.{pick, _and_, _or_}
-use Rattle.lists.specs.Pages.{count, bit, distinct}
+use Rattle.lists.specs.Pages.{bit, distinct}
 use Rattle.lists.specs.Sorting.{Row}
 use Rattle.lists.proofs.Choice.{tests, cases, and-i, or-none, or-none-l, or-none-r}
 use Rattle.lists.proofs.Pages.{count-length}
-use Rattle.paging.specs.Refusals.{refuse, sizesRefusal}
 use Rattle.paging.specs.Layers.{Layers, noLayers, isJoin, topAfter, layered, layersAfter, layerRules, joinCount, holdsUpTo, possible}
-use Rattle.paging.specs.Table.{numberIn, ruleIn, revealed}
-use Rattle.theory.proofs.Table.{table-step}
-use Rattle.layers.specs.Rows.{rowsOf, numbersOf, pagesOf, unused, usedRows, tableOf}
-use Rattle.layers.specs.Formed.{wellFormed, isUnused}
+use Rattle.paging.specs.Refusals.{refuse, sizesRefusal}
+use Rattle.paging.specs.Rows.{rowsOf, numbersOf, pagesOf, unused, usedRows, tableOf}
+use Rattle.paging.specs.Table.{numberIn, ruleIn, revealed, Tabled, nothingYet, tabledNext, tabledAfter}
+use Rattle.paging.proofs.Forming.{FormedRows, no-rows-formed, request-forms, one-row-more, used-table}
+use Rattle.paging.proofs.Rows.{rows-back}
+use Rattle.paging.proofs.Table.{tabled-map, tabled-top, tabled-joins, tabled-snoc}
 use Rattle.layers.specs.Calls.{emptyRun, stateRefusal, rowsNext, ruleNext, runNext, requestRefusal, requestReply, tableNext, pagesNext, numbersNext}
+use Rattle.layers.specs.Formed.{wellFormed, isUnused}
 use Rattle.layers.specs.Questions.{layersIn, Verdict, possibleSet, countDiffers, broken, refusedWith, verdictOf, judged, possibleRefusal, verdict, PossibleTold}
-use Rattle.layers.specs.Traces.{Tabled, nothingYet, tabledNext, tabledAfter, overflows, allUnused, traceRefusal, traceTotals, pagesOver, numbersOver}
+use Rattle.layers.specs.Traces.{overflows, allUnused, traceRefusal, traceTotals, pagesOver, numbersOver}
 use Rattle.layers.specs.declared.LayersRun.{LayersRun}
 use Rattle.layers.specs.declared.PossibleAnswer.{PossibleAnswer}
 use Rattle.layers.specs.declared.PossibleAnswer.the-variants.{Yes, CountDiffers, BrokenAt, Refused}
-use Rattle.layers.proofs.Rows.{rows-back}
-use Rattle.layers.proofs.Forming.{FormedRows, no-rows-formed, request-forms, one-row-more, used-table, formed-table}
+use Rattle.layers.proofs.Forming.{formed-table}
 
 -- Rows along a trace
-
--- the map that rows with their s give
-abbrev mapOf : Tabled → Layers
-mapOf T = record { of = numberIn (T .rows); top = T .s }
-
-layers-from : (k a : ℕ) (trace : List ℕ) (T : Tabled) → layersAfter k a trace (mapOf T) ≡ mapOf (tabledAfter k a trace T)
-layers-from k a [] T = refl
-layers-from k a (p ∷ ps) T =
-    ap (λ L. layersAfter k a ps L) (table-step k a (T .s) p (T .rows)) ∙ layers-from k a ps (tabledNext k a p T)
-
-joins-from : (k a : ℕ) (trace : List ℕ) (T : Tabled) → tabledAfter k a trace T .joins ≡ T .joins + count isJoin (layerRules k a trace (mapOf T))
-joins-from k a [] T = omega arith
-joins-from k a (p ∷ ps) T =
-    omega (
-      arith,
-      joins-from k a ps (tabledNext k a p T),
-      ap (λ L. count isJoin (layerRules k a ps L)) (table-step k a (T .s) p (T .rows)),
-    )
-
--- the rows of a trace give the layers of the trace
-pub tabled-map : (k a : ℕ) (trace : List ℕ) (q : ℕ) → numberIn (tabledAfter k a trace nothingYet .rows) q ≡ layersAfter k a trace noLayers .of q
-tabled-map k a trace q = ap (λ L. L .of q) (sym (layers-from k a trace nothingYet))
-
-pub tabled-top : (k a : ℕ) (trace : List ℕ) → tabledAfter k a trace nothingYet .s ≡ layersAfter k a trace noLayers .top
-tabled-top k a trace = ap (λ L. L .top) (sym (layers-from k a trace nothingYet))
-
-pub tabled-joins : (k a : ℕ) (trace : List ℕ) → tabledAfter k a trace nothingYet .joins ≡ joinCount k a trace
-tabled-joins k a trace = omega (arith, joins-from k a trace nothingYet)
-
-pub tabled-snoc : (k a : ℕ) (trace : List ℕ) (p : ℕ) (T : Tabled) → tabledAfter k a (trace ++ (p ∷ [])) T ≡ tabledNext k a p (tabledAfter k a trace T)
-tabled-snoc k a [] p T = refl
-tabled-snoc k a (q ∷ qs) p T = tabled-snoc k a qs p (tabledNext k a q T)
 
 formed-from : (k a : ℕ) → 1 ≤ a → a ≤ k → (trace : List ℕ) (T : Tabled) → FormedRows k a (T .s) (T .rows)
     → FormedRows k a (tabledAfter k a trace T .s) (tabledAfter k a trace T .rows)

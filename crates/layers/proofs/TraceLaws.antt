@@ -1,35 +1,33 @@
 -- The loop that serves a trace: the table holds the layers of the requests so far, and what is left of the trace gives from there what
 -- the whole gives from the start.
 use Prim.Native.Nat.{ℕ, zero, suc, _+_, _-_, _≤_, _<_, min}
-use native.Mathlib.Omega.{arith}
 use native.Mathlib.Numerals.{add-one}
-use mathlib.Core.Path.{_≡_, refl, sym, ap, _∙_}
+use native.Mathlib.Omega.{arith}
 use mathlib.Core.Bool.{Bool, true, false}
 use mathlib.Core.List.{List, [], _∷_, _++_, append-assoc}
+use mathlib.Core.Path.{_≡_, refl, sym, ap, _∙_}
 use lib.Dec.{ltb}
 use lib.ListN.{length, take, drop, getD, replicate, length-append, length-replicate, drop-of-length-le}
 use lib.Seq.{drop-cons, take-at, drop-at, length-take-le}
 use borrow.Author.Tests.{eq-eqb, ne-eqb, lt-ltb, le-ltb, ltb-true, ltb-false}
 use Rattle.lists.specs.Choice.{pick, _and_, _or_}
 use Rattle.lists.specs.Pages.{bit}
-use Rattle.lists.proofs.Choice.{cases, clash}
 use Rattle.lists.specs.Sorting.{Row}
+use Rattle.lists.proofs.Choice.{cases, clash}
+use Rattle.paging.specs.Layers.{LayerRule, isJoin, topAfter}
 use Rattle.paging.specs.Refusals.{sizesRefusal}
-use Rattle.paging.specs.Layers.{LayerRule, append, join, lift, isJoin, topAfter}
-use Rattle.paging.specs.Table.{ruleIn, rowsAfter, sizeOf}
-use Rattle.layers.specs.Rows.{rowsOf, rowAt, unused, usedRows, tableOf}
-use Rattle.layers.specs.Formed.{isUnused}
-use Rattle.layers.specs.Calls.{ruleOf}
-use Rattle.layers.specs.Serving.{Sound, SteppedTo}
-use Rattle.layers.specs.Filling.{Filled}
-use Rattle.layers.specs.Traces.{Tabled, nothingYet, tabledNext, tabledAfter, overflows, allUnused}
-use Rattle.layers.specs.Over.{ServedTo, earlyRefusal}
-use Rattle.layers.specs.declared.table.Stepped.{Stepped}
-use Rattle.layers.specs.declared.trace.Served.{Served}
-use Rattle.layers.proofs.Rows.{rows-length, rows-get, rows-take, rows-drop, rows-append}
-use Rattle.layers.proofs.Serving.{used-rows, used-rule}
+use Rattle.paging.specs.Rows.{rowsOf, rowAt, unused, usedRows, tableOf}
+use Rattle.paging.specs.Table.{ruleIn, rowsAfter, sizeOf, Tabled, nothingYet, tabledNext, tabledAfter}
+use Rattle.paging.proofs.Forming.{FormedRows, no-rows-formed, request-forms, one-row-more, used-table}
 use Rattle.paging.proofs.Refusals.{sizes-pass, sizes-fall}
-use Rattle.layers.proofs.Forming.{FormedRows, no-rows-formed, request-forms, one-row-more, used-table}
+use Rattle.paging.proofs.Rows.{rows-length, rows-get, rows-take, rows-drop, rows-append}
+use Rattle.table.specs.Filling.{Filled}
+use Rattle.table.specs.Serving.{Sound, SteppedTo, ruleOf}
+use Rattle.table.specs.declared.Stepped.{Stepped}
+use Rattle.table.proofs.Serving.{used-rows, used-rule}
+use Rattle.layers.specs.Formed.{isUnused}
+use Rattle.layers.specs.Over.{ServedTo, earlyRefusal}
+use Rattle.layers.specs.Traces.{overflows, allUnused}
 
 -- what the table, s and the bundles stand for
 abbrev pub tabledIn : List Row → (s joins : ℕ) → Tabled

@@ -1,25 +1,25 @@
 -- Well formed as plain facts, and what the readings of a table tell of it.
 use Prim.Native.Nat.{ℕ, zero, suc, _+_, _-_, _≤_, _<_}
-use mathlib.Core.Path.{_≡_, refl, sym, ap, _∙_}
-use mathlib.Core.Bool.{Bool, true, false, not}
-use mathlib.Core.List.{List, [], _∷_, _++_}
 use native.Mathlib.Omega.{arith}
+use mathlib.Core.Bool.{Bool, true, false}
+use mathlib.Core.List.{List, [], _∷_, _++_}
+use mathlib.Core.Path.{_≡_, refl, sym, ap, _∙_}
 use lib.Dec.{eqb, leb, ltb}
-use lib.ListN.{length, take, drop, getD, replicate}
+use lib.ListN.{length, take, replicate}
 use lib.Seq.{take-at}
-use borrow.Author.Tests.{eq-eqb, ne-eqb, lt-ltb, le-ltb, le-leb, lt-leb, eqb-true, eqb-false}
-use Rattle.lists.specs.Choice.{pick, _and_, _or_}
-use Rattle.lists.specs.Pages.{count, bit, distinct, filter}
-use Rattle.lists.specs.Sorting.{Row, rowBefore}
+use borrow.Author.Tests.{lt-ltb, le-ltb, le-leb, eqb-true}
+use Rattle.lists.specs.Choice.{_or_, _and_}
+use Rattle.lists.specs.Pages.{count, distinct}
+use Rattle.lists.specs.Sorting.{Row}
 use Rattle.lists.proofs.Choice.{tests, cases, split, clash, and-l, and-r, and-i, or-l, or-r, or-split}
 use Rattle.lists.proofs.Pages.{count-length}
 use Rattle.lists.proofs.Sorting.{row-eq, row-split}
+use Rattle.paging.specs.Rows.{rowsOf, pagesOf, unused, usedRows, tableOf}
 use Rattle.paging.specs.Table.{aboveZero, sizeOf}
-use Rattle.layers.specs.Rows.{rowAt, rowsOf, pagesOf, numbersOf, unused, usedRows, tableOf}
+use Rattle.paging.proofs.Rows.{pages-back}
 use Rattle.layers.specs.Formed.{isUnused, follows, ordered, orderedBehind, present, noneAbove, singleAbove, wellFormed}
 use Rattle.layers.specs.Sizes.{timesIn, Tallied, presentIn, singleIn, numbered, sizesFormed}
 use Rattle.layers.specs.declared.LayersRun.{LayersRun}
-use Rattle.layers.proofs.Rows.{rows-length, rows-get, pages-back}
 
 -- the tests of wellFormed, one by one
 pub record Formed (run : LayersRun) (rows : List Row) : Type 0 where

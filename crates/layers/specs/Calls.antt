@@ -1,27 +1,19 @@
 -- A request to the layers (document 01, "Layers"): its refusals in order, its answer and both lists afterwards.
 use Prim.Native.Nat.{ℕ, _+_}
-use mathlib.Core.Bool.{Bool, not}
+use mathlib.Core.Bool.{not}
 use mathlib.Core.List.{List}
 use lib.Dec.{eqb, ltb}
 use lib.ListN.{length}
 use Rattle.lists.specs.Choice.{pick}
 use Rattle.lists.specs.Pages.{bit}
 use Rattle.lists.specs.Sorting.{Row}
+use Rattle.paging.specs.Layers.{LayerRule, isJoin, topAfter}
 use Rattle.paging.specs.Refusals.{refuse, sizesRefusal}
-use Rattle.paging.specs.Layers.{LayerRule, append, join, lift, isJoin, topAfter}
+use Rattle.paging.specs.Rows.{rowsOf, numbersOf, pagesOf, usedRows, tableOf}
 use Rattle.paging.specs.Table.{ruleIn, rowsAfter}
-use Rattle.layers.specs.Rows.{rowsOf, numbersOf, pagesOf, usedRows, tableOf}
 use Rattle.layers.specs.Formed.{wellFormed}
-use Rattle.layers.specs.declared.LayersRun.{LayersRun}
 use Rattle.layers.specs.declared.LayersReply.{LayersReply}
-use Rattle.layers.specs.declared.RuleApplied.{RuleApplied}
-use Rattle.layers.specs.declared.RuleApplied.the-variants.{Append, Join, Lift}
-
--- the rule of Figure 1 that each case of the code's enum stands for
-abbrev pub ruleOf : RuleApplied → LayerRule
-ruleOf Append = append
-ruleOf Join = join
-ruleOf Lift = lift
+use Rattle.layers.specs.declared.LayersRun.{LayersRun}
 
 -- the empty state
 abbrev pub emptyRun : (k a : ℕ) → LayersRun

@@ -6,8 +6,8 @@ use lib.Dec.{eqb, leb, ltb}
 use Rattle.lists.specs.Choice.{_and_, _or_}
 use Rattle.lists.specs.Pages.{count, distinct}
 use Rattle.lists.specs.Sorting.{Row, rowBefore}
+use Rattle.paging.specs.Rows.{pagesOf, usedRows}
 use Rattle.paging.specs.Table.{aboveZero, sizeOf}
-use Rattle.layers.specs.Rows.{pagesOf, usedRows}
 use Rattle.layers.specs.declared.LayersRun.{LayersRun}
 
 unfoldable pub isUnused : Row → Bool

@@ -1,9 +1,5 @@
-pub mod Rows
 pub mod Formed
 pub mod Calls
-pub mod Serving
-pub mod Merging
-pub mod Filling
 pub mod Sizes
 pub mod Questions
 pub mod Traces

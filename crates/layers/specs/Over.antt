@@ -1,14 +1,15 @@
 -- What the inner functions of src/trace.rt promise: the table after requests served one after the other.
-use Prim.Native.Nat.{ℕ, _≤_}
-use mathlib.Core.Path.{_≡_}
+use Prim.Native.Nat.{ℕ}
 use mathlib.Core.Bool.{false, not}
 use mathlib.Core.List.{List}
+use mathlib.Core.Path.{_≡_}
 use lib.Dec.{eqb, ltb}
 use lib.ListN.{length}
 use Rattle.lists.specs.Sorting.{Row}
 use Rattle.paging.specs.Refusals.{refuse, sizesRefusal}
-use Rattle.layers.specs.Rows.{rowsOf, tableOf}
-use Rattle.layers.specs.Traces.{Tabled, nothingYet, tabledAfter, overflows, allUnused}
+use Rattle.paging.specs.Rows.{rowsOf, tableOf}
+use Rattle.paging.specs.Table.{nothingYet, tabledAfter}
+use Rattle.layers.specs.Traces.{overflows, allUnused}
 use Rattle.layers.specs.declared.trace.Served.{Served}
 
 -- the rows, s and bundles after a trace, or that the table was too small on the way

@@ -1,23 +1,23 @@
 -- The questions on the layers (document 01, "Layers" for revealed pages, "Possible set"). A question changes nothing and counts no
 -- request, so it judges neither 12 nor 10.
 use Prim.Native.Nat.{ℕ, _-_, _≤_}
-use mathlib.Core.Path.{_≡_}
-use mathlib.Core.Bool.{Bool, true, not}
+use mathlib.Core.Bool.{true, not}
 use mathlib.Core.List.{List}
+use mathlib.Core.Path.{_≡_}
 use lib.Dec.{eqb, ltb}
 use lib.ListN.{length, drop}
 use Rattle.lists.specs.Choice.{pick}
 use Rattle.lists.specs.Pages.{distinct, filter}
 use Rattle.lists.specs.Sorting.{Row}
-use Rattle.paging.specs.Refusals.{refuse}
 use Rattle.paging.specs.Layers.{Layers, breaksAt, holdsUpTo}
+use Rattle.paging.specs.Refusals.{refuse}
+use Rattle.paging.specs.Rows.{rowsOf, usedRows}
 use Rattle.paging.specs.Table.{numberIn, revealed}
-use Rattle.layers.specs.Rows.{rowsOf, usedRows}
 use Rattle.layers.specs.Calls.{stateRefusal}
 use Rattle.layers.specs.declared.LayersRun.{LayersRun}
-use Rattle.layers.specs.declared.RevealedReply.{RevealedReply}
 use Rattle.layers.specs.declared.PossibleAnswer.{PossibleAnswer}
 use Rattle.layers.specs.declared.PossibleAnswer.the-variants.{Yes, CountDiffers, BrokenAt, Refused}
+use Rattle.layers.specs.declared.RevealedReply.{RevealedReply}
 
 -- Revealed pages
 

@@ -1,14 +1,14 @@
 -- The sizes of the layers as a list, entry i for layer i: what the inner functions of src/formed.rt read off it.
 use Prim.Native.Nat.{ℕ, zero, suc, _+_, _-_, _≤_, _<_}
-use mathlib.Core.Path.{_≡_}
 use mathlib.Core.Bool.{Bool, true}
 use mathlib.Core.List.{List, [], _∷_}
+use mathlib.Core.Path.{_≡_}
 use lib.Dec.{eqb, leb, ltb}
 use lib.ListN.{length, getD}
 use Rattle.lists.specs.Choice.{_and_, _or_}
 use Rattle.lists.specs.Pages.{count}
 use Rattle.lists.specs.Sorting.{Row}
-use Rattle.layers.specs.Rows.{rowAt}
+use Rattle.paging.specs.Rows.{rowAt}
 use Rattle.layers.specs.Formed.{present, singleAbove}
 use Rattle.layers.specs.declared.LayersRun.{LayersRun}
 use Rattle.layers.specs.declared.PossibleAnswer.{PossibleAnswer}

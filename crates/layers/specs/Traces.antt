@@ -1,42 +1,16 @@
 -- The layers over a whole lent trace, into a lent table that is all unused.
-use Prim.Native.Nat.{ℕ, _+_}
+use Prim.Native.Nat.{ℕ}
 use mathlib.Core.Bool.{Bool, true, false, not}
 use mathlib.Core.List.{List, [], _∷_}
 use lib.Dec.{eqb, ltb}
 use lib.ListN.{length}
 use Rattle.lists.specs.Choice.{pick, _and_, _or_}
-use Rattle.lists.specs.Pages.{bit}
 use Rattle.lists.specs.Sorting.{Row}
 use Rattle.paging.specs.Refusals.{refuse, sizesRefusal}
-use Rattle.paging.specs.Layers.{isJoin, topAfter}
-use Rattle.paging.specs.Table.{ruleIn, rowsAfter, revealed}
-use Rattle.layers.specs.Rows.{rowsOf, numbersOf, pagesOf, tableOf}
+use Rattle.paging.specs.Rows.{rowsOf, numbersOf, pagesOf, tableOf}
+use Rattle.paging.specs.Table.{revealed, Tabled, nothingYet, tabledNext, tabledAfter}
 use Rattle.layers.specs.Formed.{isUnused}
 use Rattle.layers.specs.declared.LayersTotals.{LayersTotals}
-
--- the used rows, s, and the bundles counted so far
-pub record Tabled : Type 0 where
-  pub rows : List Row
-  pub s : ℕ
-  pub joins : ℕ
-
-abbrev pub nothingYet : Tabled
-nothingYet = record { rows = []; s = 0; joins = 0 }
-
--- after one request
-abbrev pub tabledNext : (k a p : ℕ) → Tabled → Tabled
-tabledNext k a p T =
-    let rule = ruleIn k (T .s) p (T .rows) in
-    record {
-      rows = rowsAfter k a (T .s) p (T .rows);
-      s = topAfter rule k a (T .s);
-      joins = T .joins + bit (isJoin rule);
-    }
-
--- after the requests of a trace
-abbrev pub tabledAfter : (k a : ℕ) → (trace : List ℕ) → Tabled → Tabled
-tabledAfter k a [] T = T
-tabledAfter k a (p ∷ ps) T = tabledAfter k a ps (tabledNext k a p T)
 
 -- after some request there are more pages than the table has places
 abbrev pub overflows : (k a places : ℕ) → (trace : List ℕ) → Tabled → Bool

@@ -1,16 +1,15 @@
 // Whether a record and a table are well formed (document 01, "Well formed"), for refusal 9.
-ghost use mathlib.Core.Path.{_≡_};
 ghost use Prim.Native.Nat.{_≤_, _<_};
+ghost use mathlib.Core.Path.{_≡_};
 ghost use lib.Dec.{eqb, ltb};
 ghost use lib.ListN.{length};
-ghost use Rattle.lists.specs.Pages.{count};
-ghost use Rattle.paging.specs.Table.{aboveZero};
 ghost use Rattle.lists.specs.Choice.{_or_};
-ghost use Rattle.layers.specs.Rows.{rowAt, rowsOf};
+ghost use Rattle.lists.specs.Pages.{count};
+ghost use Rattle.paging.specs.Rows.{rowAt, rowsOf};
+ghost use Rattle.paging.specs.Table.{aboveZero};
 ghost use Rattle.layers.specs.Formed.{isUnused, follows, ordered, wellFormed};
 ghost use Rattle.layers.specs.Sizes.{Tallied, presentIn, singleIn, numbered, sizesFormed};
 use crate::LayersRun;
-use crate::table;
 
 // The place is used, or it holds two zeros.
 fn used_or_zero(n: u32, p: u32) -> bool
@@ -32,7 +31,7 @@ fn may_follow(n: u32, p: u32, m: u32, q: u32) -> bool
     if n == 0 {
         return false;
     }
-    table::row_before(n, p, m, q)
+    rows::row_before(n, p, m, q)
 }
 
 // Whether the table is ordered.
@@ -175,7 +174,7 @@ pub(crate) fn well_formed(run: LayersRun, pages: &[u32], numbers: &[u32]) -> boo
         return false;
     }
     let n = used(numbers);
-    if lists::no_page_twice(&pages[..n]) {} else {
+    if repeats::no_page_twice(&pages[..n]) {} else {
         return false;
     }
     if none_above(numbers, run.s) {} else {

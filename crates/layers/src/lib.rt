@@ -3,15 +3,11 @@
 ghost use mathlib.Core.Path.{_≡_};
 ghost use Rattle.layers.specs.Calls.{emptyRun, stateRefusal, requestReply, pagesNext, numbersNext, refused};
 ghost use Rattle.layers.specs.Questions.{RevealedTold, PossibleTold};
-use paging::Sizes;
 ghost use Rattle.layers.specs.Traces.{refusedTotals, traceTotals, pagesOver, numbersOver};
+use paging::Sizes;
 
 mod formed;
-mod lift;
-mod merge;
 mod questions;
-mod quick;
-mod table;
 mod trace;
 
 // The layers' record: the sizes, the requests and bundles counted, and s, the number of the last layer.
@@ -41,13 +37,6 @@ impl LayersRun {
             s: 0,
         }
     }
-}
-
-// The rule of Figure 1 that a request applies: 1a appends a layer, 1b joins layers, 1c lifts a page out of its layer.
-pub enum RuleApplied {
-    Append,
-    Join,
-    Lift,
 }
 
 // A request's answer: the new record, or a refusal's number beside a record of zeros.
@@ -161,7 +150,7 @@ pub fn possible(run: LayersRun, pages: &[u32], numbers: &[u32], set: &[u32]) -> 
     if no != 0 {
         return PossibleAnswer::Refused(no);
     }
-    if lists::no_page_twice(set) {} else {
+    if repeats::no_page_twice(set) {} else {
         return PossibleAnswer::Refused(11);
     }
     if set.len() != formed::wide(run.s) {

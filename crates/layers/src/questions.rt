@@ -1,14 +1,13 @@
 // What the questions read off a table: the run of single-page layers at the top end, and the layers that the pages of a set are in.
-ghost use mathlib.Core.Path.{_≡_};
-ghost use mathlib.Core.List.{map};
 ghost use Prim.Native.Nat.{ℕ, _≤_, _<_};
+ghost use mathlib.Core.List.{map};
+ghost use mathlib.Core.Path.{_≡_};
 ghost use lib.ListN.{length, getD};
+ghost use Rattle.paging.specs.Rows.{rowsOf};
 ghost use Rattle.paging.specs.Table.{numberIn, revealed};
-ghost use Rattle.layers.specs.Rows.{rowsOf};
 ghost use Rattle.layers.specs.Sizes.{Tallied, numbered, Walked};
 use crate::PossibleAnswer;
 use crate::formed;
-use crate::table;
 
 // How many layers from s down have a single page.
 pub(crate) fn singles_at_top(numbers: &[u32], s: u32) -> u32

@@ -1,13 +1,11 @@
 // The layers over a whole trace: requests served one after the other on the table, with no check of the state.
-ghost use mathlib.Core.Path.{_≡_};
 ghost use Prim.Native.Nat.{_+_, _≤_, min};
+ghost use mathlib.Core.Path.{_≡_};
 ghost use lib.ListN.{length, replicate};
-ghost use Rattle.layers.specs.Rows.{rowsOf, unused};
-ghost use Rattle.layers.specs.Serving.{Sound};
-ghost use Rattle.layers.specs.Traces.{allUnused};
+ghost use Rattle.paging.specs.Rows.{rowsOf, unused};
+ghost use Rattle.table.specs.Serving.{Sound};
 ghost use Rattle.layers.specs.Over.{ServedTo, earlyRefusal};
-use crate::quick;
-use crate::table;
+ghost use Rattle.layers.specs.Traces.{allUnused};
 
 // What the requests of a trace came to: whether the table was too small on the way, s and the bundles counted.
 pub(crate) struct Served {
@@ -45,7 +43,15 @@ pub(crate) fn serve_all(
     let mut i = 0;
     while i < trace.len() {
         let m = room(used, pages.len());
-        let stepped = quick::step(k, a, s, trace[i], &mut pages[..m], &mut numbers[..m], used);
+        let stepped = table::quick::step(
+            k,
+            a,
+            s,
+            trace[i],
+            &mut pages[..m],
+            &mut numbers[..m],
+            used,
+        );
         if stepped.full {
             return Served {
                 full: true,

@@ -1,23 +1,21 @@
 -- Laws behind the operations on lent lists: the first place of a page, a list that grows at its end, marks.
-use Prim.Native.Nat.{ℕ, zero, suc, _+_, _-_, _*_, _/_, _≤_, _<_, min}
-use native.Mathlib.Nat.{zero-add, add-zero, suc-add, add-suc}
+use Prim.Native.Nat.{ℕ, zero, suc, _+_, _-_, _≤_, _<_, min}
+use native.Mathlib.Nat.{add-zero}
 use native.Mathlib.Numerals.{add-one}
 use native.Mathlib.Omega.{arith}
-use mathlib.Core.Path.{_≡_, refl, sym, ap, _∙_}
 use mathlib.Core.Bool.{Bool, true, false, not, _||_}
 use mathlib.Core.List.{List, [], _∷_, _++_, append-assoc, append-nil}
+use mathlib.Core.Path.{_≡_, refl, sym, ap, _∙_}
 use lib.Dec.{eqb, ltb, leb·suc-suc}
-use lib.Bits.{and-le-r}
-use mir.Val.{boolByte}
 use lib.ListN.{length, take, drop, getD, set, replicate, length-append, length-take, length-drop, length-replicate, getD-replicate, drop-of-length-le, take-append-drop}
-use lib.Seq.{drop-drop, drop-cons, take-suc, take-all, length-take-le, getD-set-same, getD-set-other, set-at, take-at, drop-at, getD-append-add, getD-drop}
-use borrow.Author.Tests.{eq-eqb, ne-eqb, eqb-true, eqb-false, lt-ltb, le-ltb, not-true}
-use Rattle.lists.specs.Choice.{pick, _and_, _or_}
-use Rattle.lists.specs.Pages.{mem, distinct, toEnd, erase, eraseAll, bit, count}
+use lib.Seq.{drop-drop, drop-cons, take-suc, take-all, length-take-le, set-at, take-at, drop-at, getD-append-add, getD-drop}
+use mir.Val.{boolByte}
+use borrow.Author.Tests.{eq-eqb, ne-eqb, eqb-true, lt-ltb, not-true}
+use Rattle.lists.specs.Choice.{_and_, _or_}
+use Rattle.lists.specs.Pages.{mem, distinct, toEnd, erase, eraseAll}
 use Rattle.lists.specs.Places.{place, movedToEnd, firstDropped, pasted}
-use Rattle.lists.specs.Slots.{slotOf}
 use Rattle.lists.proofs.Choice.{cases, split, clash, and-l, and-r, and-false-r, or-split, eqb-self, eqb-sym}
-use Rattle.lists.proofs.Pages.{count-snoc, without-absent}
+use Rattle.lists.proofs.Pages.{without-absent}
 
 -- The first place of a page
 
@@ -109,59 +107,6 @@ twice-at pages i h m =
     let front : distinct (take (suc i) pages) ≡ false =
     rw (take-suc pages i 0 h, distinct-snoc (take i pages) (getD pages i 0), m) (and-false-r (distinct (take i pages)) false refl) in
     rw (take-append-drop (suc i) pages) at (distinct-front (take (suc i) pages) (drop (suc i) pages) front)
-
--- Slots and marks
-
--- a slot is in its table
-pub slot-le : (mask page : ℕ) → slotOf mask page ≤ mask
-unfolding slotOf
-slot-le mask page = and-le-r (page * 2654435761 / 65536) mask
-
--- the first i pages are repeat-free, and the mark of each is set
-pub record Fresh (mask : ℕ) (marks pages : List ℕ) (i : ℕ) : Type 0 where
-  pub once : distinct (take i pages) ≡ true
-  pub marked : (q : ℕ) → mem q (take i pages) ≡ true → getD marks (slotOf mask q) 0 ≡ 1
-
-pub fresh-none : (mask : ℕ) (marks pages : List ℕ) → Fresh mask marks pages 0
-fresh-none mask marks pages = record { once = refl; marked = λ q e. clash false e refl }
-
-module _ (mask : ℕ) (marks pages : List ℕ) (i : ℕ) (h : i < length pages) where
-  -- the next page is none of the earlier ones, and its mark is set
-  fresh-more : mask < length marks → mem (getD pages i 0) (take i pages) ≡ false → Fresh mask marks pages i
-      → Fresh mask (set marks (slotOf mask (getD pages i 0)) 1) pages (i + 1)
-  unfolding _and_ _or_
-  fresh-more m n f =
-      let p = getD pages i 0 in
-      let b : slotOf mask p < length marks = omega (arith, slot-le mask p) in
-      let more : take (i + 1) pages ≡ take i pages ++ (p ∷ []) = rw (add-one i) (take-suc pages i 0 h) in
-      record {
-        once = rw (more, distinct-snoc (take i pages) p, n, f .once) refl;
-        marked = λ q e. cases (eqb (slotOf mask q) (slotOf mask p))
-            (λ s. rw (eqb-true (slotOf mask q) (slotOf mask p) s) (getD-set-same marks (slotOf mask p) 1 0 b))
-            (λ s. getD-set-other marks (slotOf mask p) (slotOf mask q) 1 0 (eqb-false (slotOf mask q) (slotOf mask p) s)
-            ∙ f .marked q (cases (mem q (take i pages)) (λ t. t)
-            (λ t. let e′ = rw (more, mem-append q (take i pages) (p ∷ []), t) at e in
-            cases (eqb q p)
-            (λ u. absurd (eqb-false (slotOf mask q) (slotOf mask p) s (ap (λ (x : ℕ). slotOf mask x) (eqb-true q p u))))
-            (λ u. clash false (rw u at e′) refl))));
-      }
-
-  -- the slot as the code has it
-  module _ (at : ℕ) (a : at ≡ slotOf mask (getD pages i 0)) (m : mask < length marks) (f : Fresh mask marks pages i) where
-    -- an unset mark rules the page out
-    pub fresh-unmarked : getD marks at 0 ≡ 0 → Fresh mask (set marks at 1) pages (i + 1)
-    fresh-unmarked z =
-        let p = getD pages i 0 in
-        let z′ : getD marks (slotOf mask p) 0 ≡ 0 = ap (λ (x : ℕ). getD marks x 0) (sym a) ∙ z in
-        rw a
-        (fresh-more m (cases (mem p (take i pages)) (λ t. let one = f .marked p t in absurd (omega arith)) (λ t. t)) f)
-
-    -- so does an exact look
-    pub fresh-looked : mem (getD pages i 0) (take i pages) ≡ false → Fresh mask (set marks at 1) pages (i + 1)
-    fresh-looked z = rw a (fresh-more m z f)
-
-pub fresh-all : (mask : ℕ) (marks pages : List ℕ) (i : ℕ) → length pages ≤ i → Fresh mask marks pages i → distinct pages ≡ true
-fresh-all mask marks pages i h f = rw (take-all i pages h) at (f .once)
 
 -- Writing along a list
 

@@ -2,4 +2,3 @@ pub mod Choice
 pub mod Pages
 pub mod Leaves
 pub mod Sorting
-pub mod ChainLaws

@@ -1,17 +1,16 @@
 -- Laws of lists of pages. A set is a test, a size is a count: an argument about sets is an implication between tests, and counts add up.
 use Prim.Native.Nat.{ℕ, zero, suc, _+_, _≤_}
+use native.Mathlib.Omega.{arith}
 use mathlib.Core.Bool.{Bool, true, false, not}
+use mathlib.Core.List.{List, [], _∷_, _++_, map}
 use mathlib.Core.Logic.{_⊎_, inl, inr}
 use mathlib.Core.Path.{_≡_, refl, sym, ap, _∙_}
-use mathlib.Core.List.{List, [], _∷_, _++_, map}
-use native.Mathlib.Omega.{arith}
 use lib.Dec.{eqb}
 use lib.ListN.{length, take, drop}
 use borrow.Author.Tests.{eqb-true, not-true}
 use Rattle.lists.specs.Choice.{_and_}
 use Rattle.lists.specs.Pages.{mem, without, toEnd, erase, eraseAll, distinct, bit, count}
-use Rattle.lists.proofs.Choice.{cases, split, clash, and-l, and-r, and-i, or-l, or-r, or-split, or-none, or-none-l, or-none-r}
-use Rattle.lists.proofs.Choice.{same-test, not-i, bit-true, bit-false, bit-le, bit-mono, eqb-self}
+use Rattle.lists.proofs.Choice.{cases, split, clash, and-l, and-r, and-i, or-l, or-r, or-split, or-none, or-none-l, or-none-r, same-test, not-i, bit-true, bit-false, bit-le, bit-mono, eqb-self}
 
 -- no page stands in the list twice, by counting
 abbrev pub Once : List ℕ → Type 0

@@ -1,6 +1,4 @@
-pub mod Chains
 pub mod Choice
 pub mod Pages
 pub mod Places
 pub mod Sorting
-pub mod Slots

@@ -1,11 +1,11 @@
 -- The lists after a hit and after a load, as the code makes them: pages in front, zeros up to k, the places past k untouched.
-use Prim.Native.Nat.{ℕ, suc, _+_, _-_, _≤_, _<_, min}
+use Prim.Native.Nat.{ℕ, _+_, _-_, _≤_, _<_, min}
 use native.Mathlib.Numerals.{add-one}
 use native.Mathlib.Omega.{arith}
+use mathlib.Core.List.{List, _++_, append-assoc}
 use mathlib.Core.Path.{_≡_, refl, sym, ap, _∙_}
-use mathlib.Core.List.{List, [], _∷_, _++_, append-assoc}
-use lib.ListN.{length, take, drop, set, replicate, length-append, length-take, length-drop, length-set, length-replicate}
-use lib.Seq.{take-all, length-take-le, take-at, drop-drop, drop-append-le, drop-append-add, drop-set-lt, take-suc-set, take-take}
+use lib.ListN.{length, take, drop, set, replicate, length-append, length-drop, length-set, length-replicate}
+use lib.Seq.{take-all, length-take-le, take-at, drop-drop, drop-append-add, drop-set-lt, take-suc-set, take-take}
 use Rattle.lists.specs.Places.{movedToEnd, firstDropped, pasted}
 use Rattle.lists.proofs.Leaves.{length-moved, length-dropped}
 use Rattle.lru.specs.Serving.{laid, loaded, bundleOver}

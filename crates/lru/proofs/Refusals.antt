@@ -1,23 +1,23 @@
 -- The refusals: each test of the code is a condition of the list, and where none holds the state is ready.
 use Prim.Native.Nat.{ℕ, _≤_, _<_}
 use native.Mathlib.Omega.{arith}
-use mathlib.Core.Path.{_≡_, refl, sym, ap, _∙_}
 use mathlib.Core.Bool.{Bool, true, false, not}
 use mathlib.Core.List.{List}
-use lib.Dec.{eqb, leb, ltb}
+use mathlib.Core.Path.{_≡_, refl, sym, _∙_}
+use lib.Dec.{eqb, ltb}
 use lib.ListN.{length, take}
-use borrow.Author.Tests.{eq-eqb, ne-eqb, eqb-true, eqb-false, lt-ltb, le-ltb, ltb-true, ltb-false, le-leb, lt-leb, leb-true, leb-false, not-true, not-false}
-use Rattle.lists.specs.Choice.{pick, _and_, _or_}
+use borrow.Author.Tests.{eq-eqb, ne-eqb, eqb-false, lt-ltb, le-ltb, ltb-false, le-leb, lt-leb, not-false}
+use Rattle.lists.specs.Choice.{_or_}
 use Rattle.lists.specs.Pages.{distinct}
-use Rattle.lists.proofs.Choice.{tests, cases, split, clash, and-l, and-r, and-i, and-false-l, and-false-r, or-l, or-r, or-none, or-none-l, or-none-r}
+use Rattle.lists.proofs.Choice.{tests, and-l, and-r, and-i, and-false-l, and-false-r, or-none-l, or-none-r}
 use Rattle.paging.specs.Refusals.{refuse, sizesRefusal}
 use Rattle.paging.proofs.Refusals.{SizesRight, sizes-pass, sizes-fall, sizes-zero, sizes-right, sizes-taken}
-use Rattle.lru.specs.declared.Run.{Run}
-use Rattle.lru.specs.declared.Reply.{Reply}
-use Rattle.lru.specs.Serving.{emptyRun}
-use Rattle.lru.specs.Refusing.{wellFormed, requestRefusal, replyOf, cacheOf, evictedOf, traceRefusal, totalsOf}
 use Rattle.lru.specs.Ready.{Ready, TraceReady}
+use Rattle.lru.specs.Refusing.{wellFormed, requestRefusal, replyOf, cacheOf, evictedOf, traceRefusal, totalsOf}
+use Rattle.lru.specs.Serving.{emptyRun}
 use Rattle.lru.specs.Standing.{runOver}
+use Rattle.lru.specs.declared.Reply.{Reply}
+use Rattle.lru.specs.declared.Run.{Run}
 use Rattle.lru.proofs.Served.{Served}
 
 -- a condition that does not hold, where its number is not 0

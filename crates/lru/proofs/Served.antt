@@ -1,25 +1,23 @@
 -- What the code finds is the request's kind, and what it then writes and answers is what the definitions say for that kind.
 use Prim.Native.Nat.{ℕ, _+_, _-_, _≤_, _<_}
 use native.Mathlib.Omega.{arith}
-use mathlib.Core.Path.{_≡_, refl, sym, ap, _∙_}
 use mathlib.Core.Bool.{true, false}
 use mathlib.Core.List.{List, [], _∷_, _++_}
+use mathlib.Core.Path.{_≡_, refl, sym, ap, _∙_}
 use lib.Dec.{ltb}
 use lib.ListN.{length, take, drop, length-append, length-drop}
 use lib.Seq.{length-take-le}
 use borrow.Author.Tests.{lt-ltb, le-ltb, ltb-true, ltb-false}
-use Rattle.lists.specs.Choice.{pick}
-use Rattle.lists.specs.Pages.{mem, toEnd, distinct}
+use Rattle.lists.specs.Pages.{mem, toEnd}
 use Rattle.lists.specs.Places.{place, movedToEnd}
 use Rattle.lists.proofs.Choice.{cases}
 use Rattle.lists.proofs.Leaves.{mem-place, length-moved, moved-toEnd, erase-first}
-use Rattle.lru.specs.declared.Run.{Run}
-use Rattle.lru.specs.declared.Reply.{Reply}
-use Rattle.lru.specs.declared.serving.Found.{Found}
-use Rattle.lru.specs.declared.serving.Found.the-variants.{Held, Room, Full}
-use Rattle.lru.specs.Serving.{laid, loaded, bundleOver, countedRun, cacheServed, evictedServed, replyServed}
-use Rattle.lru.specs.Ready.{Ready}
 use Rattle.lru.specs.Cases.{foundIn}
+use Rattle.lru.specs.Ready.{Ready}
+use Rattle.lru.specs.Serving.{laid, loaded, bundleOver, countedRun, cacheServed, evictedServed, replyServed}
+use Rattle.lru.specs.declared.Reply.{Reply}
+use Rattle.lru.specs.declared.Run.{Run}
+use Rattle.lru.specs.declared.serving.Found.the-variants.{Held, Room, Full}
 
 -- Finding
 

@@ -1,35 +1,34 @@
 -- One step of a list of calls: a state that stands for a trace is never refused for what it is, and after an accepted request it
 -- stands for the trace with that page behind it.
-use Prim.Native.Nat.{ℕ, zero, suc, _+_, _-_, _≤_, _<_}
+use Prim.Native.Nat.{ℕ, suc, _+_, _-_, _≤_, _<_}
 use native.Mathlib.Nat.{add-zero}
-use native.Mathlib.Omega.{arith}
-use mathlib.Core.Path.{_≡_, refl, sym, ap, _∙_}
-use mathlib.Core.Bool.{Bool, true, false, not}
-use mathlib.Core.List.{List, [], _∷_, _++_, append-assoc, append-nil}
-use lib.Dec.{eqb, ltb}
 use native.Mathlib.Numerals.{add-one}
+use native.Mathlib.Omega.{arith}
+use mathlib.Core.Bool.{Bool, true, false}
+use mathlib.Core.List.{List, [], _∷_, _++_, append-assoc, append-nil}
+use mathlib.Core.Path.{_≡_, refl, sym, ap, _∙_}
+use lib.Dec.{eqb, ltb}
 use lib.ListN.{length, take, drop, getD, replicate, length-append, length-drop}
-use lib.Seq.{take-at, take-suc, take-all, length-take-le}
+use lib.Seq.{take-at, take-suc, take-all}
 use borrow.Author.Tests.{eq-eqb, eqb-true, ltb-true, ltb-false, ne-eqb, le-ltb, leb-true}
-use Rattle.lists.specs.Choice.{pick, _and_, _or_}
+use Rattle.lists.specs.Choice.{pick, _or_}
 use Rattle.lists.specs.Pages.{mem, toEnd, eraseAll, distinct, count, bit}
 use Rattle.lists.proofs.Choice.{cases, clash, and-l, and-r, or-none}
-use Rattle.lists.proofs.Pages.{count-append, Once, distinct-once, once-distinct, once-snoc, once-toEnd, once-eraseAll, mem-eraseAll, toEnd-same, length-same}
 use Rattle.lists.proofs.Leaves.{erase-first}
-use Rattle.paging.specs.Refusals.{refuse}
-use Rattle.paging.specs.Policy.{Kind, hit, load, bundled, kindOf, isLoad, isBundled, serve, holds, kinds, bundleCount, loadCount}
+use Rattle.lists.proofs.Pages.{count-append, Once, distinct-once, once-distinct, once-snoc, once-toEnd, once-eraseAll, mem-eraseAll, toEnd-same, length-same}
 use Rattle.paging.specs.Lru.{lruRule}
-use Rattle.paging.proofs.Runs.{holds-append, kinds-append, lru-holds-any, lru-kinds-any}
-use Rattle.lru.specs.declared.Run.{Run}
-use Rattle.lru.specs.declared.Reply.{Reply}
-use Rattle.lru.specs.declared.Totals.{Totals}
-use Rattle.lru.specs.Serving.{emptyRun, heldAfter, kindIn, laid, countedRun, runServed, cacheServed, replyServed}
-use Rattle.lru.specs.Refusing.{requestRefusal, wellFormed, replyOf, cacheOf, traceRefusal, totalsOf}
-use Rattle.lru.specs.Ready.{Ready, TraceReady}
-use Rattle.lru.specs.Standing.{runOver, Stands, Call, State, emptyState, accepts, afterCall, called, afterCalls, acceptedPages, pagesOf, roomy}
+use Rattle.paging.specs.Policy.{Kind, hit, load, bundled, kindOf, isLoad, isBundled, serve, holds, kinds}
+use Rattle.paging.specs.Refusals.{refuse}
 use Rattle.paging.proofs.Refusals.{SizesRight}
-use Rattle.lru.proofs.Refusals.{sizes-sized, ready-of, well, trace-ready, totals-served}
+use Rattle.paging.proofs.Runs.{holds-append, kinds-append, lru-holds-any, lru-kinds-any}
+use Rattle.lru.specs.Ready.{Ready, TraceReady}
+use Rattle.lru.specs.Refusing.{requestRefusal, replyOf, cacheOf, traceRefusal, totalsOf}
+use Rattle.lru.specs.Serving.{emptyRun, heldAfter, kindIn, runServed, cacheServed, replyServed}
+use Rattle.lru.specs.Standing.{runOver, Stands, Call, State, emptyState, accepts, afterCall, called, afterCalls, acceptedPages, pagesOf, roomy}
+use Rattle.lru.specs.declared.Reply.{Reply}
+use Rattle.lru.specs.declared.Run.{Run}
 use Rattle.lru.proofs.Laying.{length-laid}
+use Rattle.lru.proofs.Refusals.{sizes-sized, ready-of, well, trace-ready, totals-served}
 
 -- Serving keeps the pages held well formed
 

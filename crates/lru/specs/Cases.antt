@@ -6,7 +6,6 @@ use lib.ListN.{length}
 use Rattle.lists.specs.Choice.{pick}
 use Rattle.lists.specs.Pages.{mem}
 use Rattle.lists.specs.Places.{place}
-use Rattle.paging.specs.Policy.{Kind, hit, load, bundled}
 use Rattle.lru.specs.declared.serving.Found.{Found}
 use Rattle.lru.specs.declared.serving.Found.the-variants.{Held, Room, Full}
 

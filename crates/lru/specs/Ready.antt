@@ -1,8 +1,8 @@
 -- A state that no request is refused in, as plain facts.
 use Prim.Native.Nat.{ℕ, _+_, _≤_, _<_}
-use mathlib.Core.Path.{_≡_}
 use mathlib.Core.Bool.{true}
 use mathlib.Core.List.{List}
+use mathlib.Core.Path.{_≡_}
 use lib.ListN.{length, take}
 use Rattle.lists.specs.Pages.{distinct}
 use Rattle.lru.specs.declared.Run.{Run}

@@ -7,13 +7,13 @@ use lib.Dec.{eqb, leb, ltb}
 use lib.ListN.{length, take}
 use Rattle.lists.specs.Choice.{pick, _and_, _or_}
 use Rattle.lists.specs.Pages.{distinct}
-use Rattle.paging.specs.Refusals.{refuse, sizesRefusal}
 use Rattle.paging.specs.Lru.{lruRule}
 use Rattle.paging.specs.Policy.{bundleCount, loadCount}
-use Rattle.lru.specs.declared.Run.{Run}
-use Rattle.lru.specs.declared.Reply.{Reply}
-use Rattle.lru.specs.declared.Totals.{Totals}
+use Rattle.paging.specs.Refusals.{refuse, sizesRefusal}
 use Rattle.lru.specs.Serving.{emptyRun, cacheServed, evictedServed, replyServed}
+use Rattle.lru.specs.declared.Reply.{Reply}
+use Rattle.lru.specs.declared.Run.{Run}
+use Rattle.lru.specs.declared.Totals.{Totals}
 
 -- document 01's "Well formed": only the first `count` places are looked at
 unfoldable pub wellFormed : Run → (count : ℕ) → (cache : List ℕ) → Bool

@@ -5,10 +5,10 @@ use mathlib.Core.List.{List, [], _∷_, _++_}
 use lib.ListN.{length, take, drop, replicate}
 use Rattle.lists.specs.Choice.{pick}
 use Rattle.lists.specs.Pages.{bit}
-use Rattle.paging.specs.Policy.{Kind, kindOf, kindNumber, isBundled, isLoad, serve}
 use Rattle.paging.specs.Lru.{lruRule}
-use Rattle.lru.specs.declared.Run.{Run}
+use Rattle.paging.specs.Policy.{Kind, kindOf, kindNumber, isBundled, isLoad, serve}
 use Rattle.lru.specs.declared.Reply.{Reply}
+use Rattle.lru.specs.declared.Run.{Run}
 
 -- the empty start of a run
 abbrev pub emptyRun : (k a : ℕ) → Run

@@ -1,18 +1,18 @@
 -- A state that stands for a trace: record, count and cache list are those of LRU's model over the trace, and the state is well formed.
 -- Document 01's lists of calls ("What demand 3 compares") are made of such states.
 use Prim.Native.Nat.{ℕ, _≤_}
-use mathlib.Core.Path.{_≡_}
 use mathlib.Core.Bool.{Bool, true}
 use mathlib.Core.List.{List, [], _∷_, _++_}
+use mathlib.Core.Path.{_≡_}
 use lib.Dec.{eqb, leb}
 use lib.ListN.{length, take}
 use Rattle.lists.specs.Choice.{pick, _and_}
 use Rattle.lists.specs.Pages.{distinct}
-use Rattle.paging.specs.Policy.{holds, bundleCount, loadCount}
 use Rattle.paging.specs.Lru.{lruRule}
-use Rattle.lru.specs.declared.Run.{Run}
-use Rattle.lru.specs.Serving.{emptyRun}
+use Rattle.paging.specs.Policy.{holds, bundleCount, loadCount}
 use Rattle.lru.specs.Refusing.{requestRefusal, replyOf, cacheOf}
+use Rattle.lru.specs.Serving.{emptyRun}
+use Rattle.lru.specs.declared.Run.{Run}
 
 -- the record after a trace
 abbrev pub runOver : (k a : ℕ) → (trace : List ℕ) → Run

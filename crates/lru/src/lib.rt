@@ -1,8 +1,8 @@
 // Least recent use (document 01, "LRU"): the call that a tracker makes, one request at a time, on a run record by value and two
 // lent lists; and LRU over a whole trace.
 ghost use mathlib.Core.Path.{_≡_};
-ghost use Rattle.lru.specs.Serving.{emptyRun};
 ghost use Rattle.lru.specs.Refusing.{requestRefusal, replyOf, cacheOf, evictedOf, traceRefusal, totalsOf};
+ghost use Rattle.lru.specs.Serving.{emptyRun};
 use paging::Sizes;
 use paging::Trace;
 
@@ -88,7 +88,7 @@ fn refusal(run: Run, count: u32, cache: &[u32], evicted: &[u32]) -> u32
     if run.loads > run.requests {
         return 9;
     }
-    if lists::no_page_twice_in_buffer(&cache[..count as usize]) {
+    if repeats::no_page_twice_in_buffer(&cache[..count as usize]) {
         if run.requests == Run::COUNTER_MAX {
             return 12;
         }

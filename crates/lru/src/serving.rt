@@ -1,12 +1,12 @@
 // Serving one request: find, decide, then write. No check here: whoever calls keeps the state ready.
-ghost use mathlib.Core.Path.{_≡_};
 ghost use Prim.Native.Nat.{_-_, _≤_, _<_};
+ghost use mathlib.Core.Path.{_≡_};
 ghost use lib.ListN.{length, take};
 ghost use Rattle.lists.specs.Places.{movedToEnd};
-ghost use Rattle.lru.specs.Serving.{laid, loaded, bundleOver, countedRun, cacheServed, evictedServed, replyServed};
-ghost use Rattle.lru.specs.Ready.{Ready, Counts, TraceReady};
-ghost use Rattle.lru.specs.Standing.{runOver};
 ghost use Rattle.lru.specs.Cases.{foundIn};
+ghost use Rattle.lru.specs.Ready.{Ready, Counts, TraceReady};
+ghost use Rattle.lru.specs.Serving.{laid, loaded, bundleOver, countedRun, cacheServed, evictedServed, replyServed};
+ghost use Rattle.lru.specs.Standing.{runOver};
 use crate::Reply;
 use crate::Run;
 

@@ -1,14 +1,14 @@
 -- Worked examples of document 01: the eight-request shift's schedule, its bytes and their length (38 suffice, 37 are too few), and an
 -- empty trace's.
 use Prim.Native.Nat.{ℕ}
-use mathlib.Core.Path.{_≡_, refl}
 use mathlib.Core.Bool.{Bool, true, false}
 use mathlib.Core.List.{List, [], _∷_}
+use mathlib.Core.Path.{_≡_, refl}
 use lib.Dec.{eqb}
 use lib.ListN.{length, replicate}
 use Rattle.lists.specs.Choice.{_and_, _or_}
-use Rattle.paging.specs.Refusals.{sizesRefusal}
 use Rattle.paging.specs.Min.{farther}
+use Rattle.paging.specs.Refusals.{sizesRefusal}
 use Rattle.min.specs.Answers.{traceRefusal, minSchedule, bytesRefusal, scheduleRefusal}
 
 sameBytes : List ℕ → List ℕ → Bool

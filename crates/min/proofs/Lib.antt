@@ -1,8 +1,4 @@
-pub mod Sorting
-pub mod Order
 pub mod Model
-pub mod Places
-pub mod Chains
 pub mod Turn
 pub mod Refused
 pub mod ReadBack

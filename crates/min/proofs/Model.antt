@@ -1,26 +1,23 @@
 -- The kept keys are the model's MIN: request by request the same kind, the same bundle, and again the sorted keys of the pages held.
-use Prim.Native.Nat.{ℕ, zero, suc, _+_, _*_, _-_, _≤_, _<_}
+use Prim.Native.Nat.{ℕ, zero, suc, _+_, _-_, _<_}
 use native.Mathlib.Omega.{arith}
-use mathlib.Core.Path.{_≡_, refl, sym, _∙_, ap}
-use mathlib.Core.Bool.{Bool, true, false, false≢true}
+use mathlib.Core.Bool.{true, false, false≢true}
 use mathlib.Core.List.{List, [], _∷_, _++_, map, append-nil}
-use borrow.Author.Tests.{ne-eqb, eq-eqb, eqb-true, eqb-false}
+use mathlib.Core.Path.{_≡_, refl, sym, _∙_, ap}
 use lib.Dec.{ltb, eqb}
 use lib.ListN.{length, take, drop, getD, length-append, length-map}
 use lib.Seq.{getD-at, take-at}
-use Rattle.lists.specs.Choice.{pick}
+use borrow.Author.Tests.{ne-eqb, eq-eqb, eqb-true}
 use Rattle.lists.specs.Pages.{mem, without, eraseAll, count}
 use Rattle.lists.specs.Sorting.{sortBy}
-use Rattle.paging.specs.Schedule.{Entry, ev}
-use Rattle.paging.specs.Policy.{Kind, hit, load, bundled, isBundled, isLoad, kindOf, serve, kinds, bundles}
-use Rattle.paging.specs.Min.{minRule, farther, bestCount, minLoads}
-use Rattle.min.specs.Left.{left}
-use Rattle.min.specs.Keys.{pageOf, key, lastOf, kindIn, stay, serveKeys, kindsOf, bundlesOf}
-use Rattle.lists.proofs.Choice.{tests, cases, clash, bit-true, eqb-self, or-none}
-use Rattle.min.proofs.Sorting.{insert, sort, sort-snoc, sort-eraseAll, Below, none, also, below-sort, below-take, below-eraseAll, below-without, below-snoc, below-at, insert-last, insert-before}
-use Rattle.lists.proofs.Sorting.{length-sort}
-use Rattle.min.proofs.Order.{Pages, left-now, key-now, key-other, key-sort, page-of-keys, keys-other, keys-below, keys-eraseAll}
+use Rattle.lists.proofs.Choice.{cases, clash, bit-true, eqb-self, or-none}
 use Rattle.lists.proofs.Pages.{Once, count-some, without-absent, without-gone, mem-eraseAll, once-snoc, once-without, once-eraseAll}
+use Rattle.lists.proofs.Sorting.{length-sort}
+use Rattle.paging.specs.Min.{minRule, farther, bestCount, minLoads}
+use Rattle.paging.specs.Policy.{Kind, hit, isBundled, isLoad, kindOf, serve, kinds, bundles}
+use Rattle.keys.specs.Keys.{pageOf, key, lastOf, kindIn, stay, serveKeys, kindsOf, bundlesOf}
+use Rattle.keys.proofs.Order.{Pages, left-now, key-now, key-other, key-sort, page-of-keys, keys-other, keys-below, keys-eraseAll}
+use Rattle.keys.proofs.Sorting.{insert, sort, sort-snoc, sort-eraseAll, Below, none, also, below-sort, below-take, below-eraseAll, below-without, below-snoc, below-at, insert-last, insert-before}
 
 -- the pages held and their keys, with `later` to come
 pub record Kept (later held keys : List ℕ) : Type 0 where

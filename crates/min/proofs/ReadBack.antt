@@ -1,26 +1,26 @@
 -- What MIN writes (document 01, "MIN" and "What demand 3 compares"): as many EVs as the best count, a pages in each, so that the
 -- schedule's length is known from the count; and read back they are MIN's bundles. That they are a legal schedule is the theory's.
-use Prim.Native.Nat.{ℕ, zero, suc, _+_, _*_, _≤_, _<_}
+use Prim.Native.Nat.{ℕ, suc, _+_, _*_, _≤_, _<_}
 use native.Mathlib.Nat.{zero-add, zero-mul, one-mul, add-mul}
 use native.Mathlib.Omega.{arith}
-use mathlib.Core.Path.{_≡_, refl, sym, _∙_, ap}
 use mathlib.Core.List.{List, [], _∷_, _++_}
+use mathlib.Core.Path.{_≡_, refl, sym, _∙_, ap}
 use lib.Dec.{ltb}
-use lib.ListN.{length, take, length-append}
+use lib.ListN.{length, length-append}
 use lib.Seq.{length-take-le}
 use Rattle.lists.specs.Choice.{pick}
 use Rattle.lists.specs.Pages.{mem, bit, count}
 use Rattle.lists.specs.Sorting.{sortBy}
 use Rattle.lists.proofs.Choice.{tests, cases}
 use Rattle.lists.proofs.Sorting.{length-sort}
-use Rattle.paging.specs.Schedule.{Entry, ev, entriesCost}
-use Rattle.paging.specs.Policy.{Rule, Kind, hit, load, bundled, isBundled, kindOf, serve, kinds, bundles}
 use Rattle.paging.specs.Min.{farther, minRule, bestCount}
+use Rattle.paging.specs.Policy.{Rule, Kind, hit, load, bundled, isBundled, kindOf, serve, kinds, bundles}
+use Rattle.paging.specs.Schedule.{ev, entriesCost}
 use Rattle.records.specs.Bytes.{evBytes, entryBytes, joined, evLength, scheduleBytes, AllWritable}
-use Rattle.records.specs.Reading.{sizes, readSchedule}
-use Rattle.records.specs.Files.{entriesFrom}
 use Rattle.records.proofs.Lengths.{length-evBytes}
-use Rattle.records.proofs.RoundTrip.{schedule-reads-back}
+use Rattle.reading.specs.Files.{entriesFrom}
+use Rattle.reading.specs.Reading.{sizes, readSchedule}
+use Rattle.reading.proofs.RoundTrip.{schedule-reads-back}
 use Rattle.min.specs.Answers.{minSchedule}
 
 -- a bundle is made only where k pages are held

@@ -1,20 +1,19 @@
 -- Refusals 1, 2 and 3: the first condition that holds decides, and what is known where none holds.
 use Prim.Native.Nat.{ℕ, zero, suc, _≤_, _<_}
 use native.Mathlib.Omega.{arith}
-use mathlib.Core.Path.{_≡_, refl, sym, _∙_, ap}
 use mathlib.Core.List.{List, _++_}
-use borrow.Author.Tests.{lt-ltb, le-ltb, ltb-false, eqb-false}
+use mathlib.Core.Path.{_≡_, refl, sym, _∙_}
 use lib.Dec.{ltb, eqb}
 use lib.ListN.{length, drop}
-use Rattle.lists.specs.Choice.{pick}
+use borrow.Author.Tests.{lt-ltb, le-ltb, ltb-false, eqb-false}
 use Rattle.lists.proofs.Choice.{tests, cases}
-use Rattle.paging.specs.Refusals.{refuse, sizesRefusal}
 use Rattle.paging.specs.Min.{bestCount, minLoads}
+use Rattle.paging.specs.Refusals.{refuse, sizesRefusal}
 use Rattle.records.proofs.Writing.{sizes-pass, sizes-refuse, sizes-fine}
-use Rattle.min.specs.declared.Counts.{Counts}
-use Rattle.min.specs.declared.Scheduled.{Scheduled}
 use Rattle.min.specs.Answers.{traceRefusal, countsBy, minSchedule, bytesRefusal, scheduledBy, bytesBy, scheduledOf, bytesOf}
 use Rattle.min.specs.Run.{Accepted}
+use Rattle.min.specs.declared.Counts.{Counts}
+use Rattle.min.specs.declared.Scheduled.{Scheduled}
 
 module _ (k a n : ℕ) (trace : List ℕ) (rest : ℕ) (e : n ≡ sizesRefusal k a 0) where
   pub refused-sizes : (n ≡ 0 → ⊥) → n ≡ traceRefusal k a trace rest

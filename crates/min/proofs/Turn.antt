@@ -1,26 +1,23 @@
 -- One turn of a pass over a trace: the request's kind, its place among the keys, and the rest of the trace.
-use Prim.Native.Nat.{ℕ, zero, suc, _+_, _*_, _-_, _≤_, _<_}
+use Prim.Native.Nat.{ℕ, suc, _+_, _-_, _≤_, _<_}
 use native.Mathlib.Numerals.{add-one}
 use native.Mathlib.Omega.{arith}
+use mathlib.Core.Bool.{Bool}
+use mathlib.Core.List.{List, [], _∷_}
 use mathlib.Core.Path.{_≡_, refl, sym, _∙_, ap}
-use mathlib.Core.Bool.{Bool, true, false}
-use mathlib.Core.List.{List, [], _∷_, _++_}
-use borrow.Author.Tests.{lt-ltb, le-ltb, ne-eqb, eq-eqb}
 use lib.Dec.{ltb, eqb}
 use lib.ListN.{length, take, drop, getD, length-take, length-drop}
 use lib.Seq.{length-take-le, getD-take, drop-cons, drop-length}
-use Rattle.lists.specs.Choice.{pick}
 use Rattle.lists.specs.Pages.{bit, count}
 use Rattle.lists.proofs.Choice.{tests, cases}
 use Rattle.lists.proofs.Pages.{count-length}
 use Rattle.lists.proofs.Sorting.{length-insert}
-use Rattle.paging.specs.Schedule.{Entry}
 use Rattle.paging.specs.Policy.{Kind, hit, load, bundled, isBundled, isLoad, kindNumber}
-use Rattle.min.specs.Left.{left, leftsOf}
-use Rattle.min.specs.Keys.{keyOf, key, lastOf, kindIn, stay, serveKeys, kindsOf, bundleOf, bundlesOf, kindFrom, Room}
+use Rattle.next_use.specs.Left.{left}
+use Rattle.next_use.proofs.Chains.{lefts-at, length-lefts}
+use Rattle.keys.specs.Keys.{keyOf, key, lastOf, kindIn, serveKeys, kindsOf, bundleOf, bundlesOf, kindFrom, Room}
+use Rattle.keys.proofs.Order.{left-now}
 use Rattle.min.specs.Run.{Ready, Standing, Counting}
-use Rattle.min.proofs.Order.{left-now}
-use Rattle.min.proofs.Chains.{lefts-at, length-lefts}
 
 pub kind-from : (kind : Kind) → kindFrom (kindNumber kind) ≡ kind
 kind-from hit = refl

@@ -1,33 +1,29 @@
 -- The schedule's bytes: the pages of a bundle, one EV in the rest of the bytes, and EVs one behind the other.
-use Prim.Native.Nat.{ℕ, zero, suc, _+_, _*_, _-_, _≤_, _<_}
+use Prim.Native.Nat.{ℕ, suc, _+_, _*_, _-_, _≤_, _<_}
 use native.Mathlib.Nat.{mul-le-mul-left, mul-le-mul-right, zero-add}
 use native.Mathlib.Numerals.{add-one}
 use native.Mathlib.Omega.{arith}
+use mathlib.Core.Bool.{false}
+use mathlib.Core.List.{List, [], _++_, map, append-nil, append-assoc}
 use mathlib.Core.Logic.{_⊎_, inl, inr}
 use mathlib.Core.Path.{_≡_, refl, sym, _∙_, ap}
-use mathlib.Core.Bool.{Bool, true, false}
-use mathlib.Core.List.{List, [], _∷_, _++_, map, append-nil, append-assoc}
-use borrow.Author.Tests.{le-ltb, ne-eqb}
-use lib.Dec.{ltb, eqb}
 use lib.ListN.{length, take, drop, getD, set, length-append, length-take, length-drop, length-map, List·getD-map, take-append-drop, drop-of-length-le}
 use lib.Seq.{take-at, take-all, take-take, length-take-le, drop-drop, drop-length}
-use Rattle.lists.specs.Choice.{pick}
-use Rattle.lists.specs.Pages.{bit, count}
-use Rattle.lists.proofs.Choice.{tests, cases}
+use borrow.Author.Tests.{le-ltb, ne-eqb}
+use Rattle.paging.specs.Min.{bestCount}
+use Rattle.paging.specs.Policy.{Kind, hit, load, bundled, isBundled, kindNumber}
+use Rattle.paging.specs.Schedule.{Entry}
 use Rattle.wire.specs.Numbers.{placed}
 use Rattle.wire.proofs.Numbers.{length-placed, placed-join}
-use Rattle.paging.specs.Schedule.{Entry, ev}
-use Rattle.paging.specs.Policy.{Kind, hit, load, bundled, isBundled, kindNumber}
-use Rattle.paging.specs.Min.{bestCount}
 use Rattle.records.specs.Bytes.{kaBytes, evBytes, entryBytes, joined, evLength, tableEntry, scheduleBytes}
 use Rattle.records.specs.Writing.{putLength, putBytes, pagesRefused}
-use Rattle.records.proofs.Writing.{pages-fine}
 use Rattle.records.proofs.Lengths.{length-evBytes}
-use Rattle.min.specs.Keys.{keyOf, pageOf, key, kindIn, serveKeys, kindsOf, bundleOf, bundlesOf, kindFrom, over, Room}
-use Rattle.min.specs.Run.{Ready, Standing, Writing, EvRoom, BundleRoom}
-use Rattle.min.proofs.Places.{over-turn}
+use Rattle.records.proofs.Writing.{pages-fine}
+use Rattle.keys.specs.Keys.{keyOf, pageOf, key, kindIn, serveKeys, bundleOf, bundlesOf, kindFrom, over, Room}
+use Rattle.keys.proofs.Order.{Pages}
+use Rattle.keys.proofs.Places.{over-turn}
 use Rattle.min.specs.Answers.{minSchedule}
-use Rattle.min.proofs.Order.{Pages}
+use Rattle.min.specs.Run.{Ready, Writing, EvRoom, BundleRoom}
 use Rattle.min.proofs.Model.{take-map, best-same, bundles-same, kept-none}
 use Rattle.min.proofs.ReadBack.{schedule-long}
 use Rattle.min.proofs.Turn.{count-kinds, room, stands, bundles-now, bundles-turn}

@@ -4,10 +4,10 @@ use Prim.Native.Nat.{ℕ, zero, suc}
 use mathlib.Core.List.{List, [], _++_}
 use lib.Dec.{ltb}
 use lib.ListN.{length, drop}
-use Rattle.paging.specs.Refusals.{refuse, sizesRefusal}
-use Rattle.paging.specs.Policy.{bundles}
 use Rattle.paging.specs.Min.{minRule, bestCount, minLoads}
-use Rattle.records.specs.Bytes.{entryBytes, joined, scheduleBytes}
+use Rattle.paging.specs.Policy.{bundles}
+use Rattle.paging.specs.Refusals.{refuse, sizesRefusal}
+use Rattle.records.specs.Bytes.{scheduleBytes}
 use Rattle.min.specs.declared.Counts.{Counts}
 use Rattle.min.specs.declared.Scheduled.{Scheduled}
 

@@ -1,15 +1,15 @@
 -- One pass over a trace: what it is handed, and where it stands.
 use Prim.Native.Nat.{ℕ, _+_, _≤_, _<_}
-use mathlib.Core.Path.{_≡_}
 use mathlib.Core.List.{List, []}
+use mathlib.Core.Path.{_≡_}
 use lib.ListN.{length, take, drop}
 use Rattle.lists.specs.Pages.{count}
-use Rattle.paging.specs.Policy.{isBundled, isLoad}
 use Rattle.paging.specs.Min.{bestCount, minLoads}
+use Rattle.paging.specs.Policy.{isBundled, isLoad}
 use Rattle.wire.specs.Numbers.{placed}
 use Rattle.records.specs.Bytes.{evLength, entryBytes, joined}
-use Rattle.min.specs.Left.{leftsOf}
-use Rattle.min.specs.Keys.{kindFrom, kindsOf, bundleOf, bundlesOf}
+use Rattle.next_use.specs.Left.{leftsOf}
+use Rattle.keys.specs.Keys.{kindFrom, kindsOf, bundleOf, bundlesOf}
 
 -- sizes and a trace that are not refused, with a place for each request's left
 pub record Accepted (k a : ℕ) (trace lefts : List ℕ) : Type 0 where

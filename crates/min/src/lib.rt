@@ -2,8 +2,6 @@
 ghost use mathlib.Core.Path.{_≡_};
 ghost use Rattle.min.specs.Answers.{traceRefusal, countsOf, scheduledOf, bytesOf};
 
-mod keys;
-mod lefts;
 mod run;
 mod write;
 

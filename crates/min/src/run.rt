@@ -1,12 +1,10 @@
 // One pass of farthest next use over a trace, from the empty buffer: how many bundles and loads it makes.
-ghost use mathlib.Core.Path.{_≡_};
 ghost use mathlib.Core.List.{[]};
+ghost use mathlib.Core.Path.{_≡_};
 ghost use Rattle.lists.specs.Pages.{bit, count};
 ghost use Rattle.paging.specs.Policy.{isBundled, isLoad};
-ghost use Rattle.min.specs.Keys.{kindFrom, kindsOf};
+ghost use Rattle.keys.specs.Keys.{kindFrom, kindsOf};
 ghost use Rattle.min.specs.Run.{Ready, Accepted, Counted};
-use crate::keys;
-use crate::lefts;
 
 pub struct Totals {
     pub bundles: u32,
@@ -61,6 +59,6 @@ pub(crate) fn counted(k: u32, a: u32, trace: &[u32], lefts: &mut [u32]) -> Total
     requires { ⌜ Accepted k a (now trace) (now lefts) ⌝ }
     ensures { λ r. ⌜ Counted k a (now (trace .entry)) (now (lefts .exit)) (r .bundles) (r .loads) ⌝ }
 {
-    lefts::fill_lefts(trace, lefts);
+    next_use::fill_lefts(trace, lefts);
     pass(k as usize, a as usize, trace, lefts)
 }

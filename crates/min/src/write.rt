@@ -1,15 +1,14 @@
 // The schedule of farthest next use: each record goes into the unused rest of the lent bytes.
-ghost use mathlib.Core.Path.{_≡_};
-ghost use mathlib.Core.List.{[], map};
 ghost use Prim.Native.Nat.{_+_, _*_, _≤_, _<_};
+ghost use mathlib.Core.List.{[], map};
+ghost use mathlib.Core.Path.{_≡_};
 ghost use lib.ListN.{length, take};
 ghost use Rattle.wire.specs.Numbers.{placed};
 ghost use Rattle.records.specs.Bytes.{evLength, evBytes, entryBytes, joined};
-ghost use Rattle.min.specs.Keys.{pageOf, kindFrom, bundleOf, bundlesOf};
-ghost use Rattle.min.specs.Run.{Ready, Accepted, EvRoom, BundleRoom};
+ghost use Rattle.keys.specs.Keys.{pageOf, kindFrom, bundleOf, bundlesOf};
 ghost use Rattle.min.specs.Answers.{bytesRefusal, scheduledBy, bytesBy};
+ghost use Rattle.min.specs.Run.{Ready, Accepted, EvRoom, BundleRoom};
 use crate::Scheduled;
-use crate::keys;
 use crate::run;
 
 // The pages of the first a keys.

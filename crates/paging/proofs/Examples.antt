@@ -1,19 +1,18 @@
 -- The definitions computed on worked examples of document 01, in one table with one theorem over it. An edit of a definition that
 -- document 01 rules out changes an entry.
-use Prim.Native.Nat.{ℕ, zero, suc, _+_}
-use mathlib.Core.Path.{_≡_, refl}
+use Prim.Native.Nat.{ℕ}
 use mathlib.Core.Bool.{Bool, true, false, not}
-use mathlib.Core.List.{List, [], _∷_, _++_}
-use lib.Dec.{eqb, leb, ltb}
+use mathlib.Core.List.{List, [], _∷_}
+use mathlib.Core.Path.{_≡_, refl}
+use lib.Dec.{eqb}
 use lib.ListN.{take}
-use Rattle.lists.specs.Choice.{pick, _and_, _or_}
-use Rattle.lists.specs.Pages.{count, mem}
-use Rattle.lists.specs.Sorting.{Row, rowBefore, sortRows}
-use Rattle.paging.specs.Schedule.{Entry, ev, pf, serves, entriesCost}
-use Rattle.paging.specs.Policy.{Rule, holds, kinds, bundles, bundleCount, loadCount}
+use Rattle.lists.specs.Choice.{_and_, _or_}
+use Rattle.lists.specs.Sorting.{Row, rowBefore}
+use Rattle.paging.specs.Layers.{Layers, noLayers, layersAfter, joinCount, possible, breaksAt}
 use Rattle.paging.specs.Lru.{lruRule}
 use Rattle.paging.specs.Min.{minRule, bestCount, minLoads, farther}
-use Rattle.paging.specs.Layers.{Layers, noLayers, layersAfter, joinCount, possible, breaksAt}
+use Rattle.paging.specs.Policy.{bundles, bundleCount, loadCount}
+use Rattle.paging.specs.Schedule.{Entry, ev, pf, serves, entriesCost}
 use Rattle.paging.specs.Table.{rowsAfter, numberIn, revealed}
 
 samePages : List ℕ → List ℕ → Bool

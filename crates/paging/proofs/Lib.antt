@@ -1,3 +1,6 @@
 pub mod Examples
 pub mod Runs
 pub mod Refusals
+pub mod Table
+pub mod Rows
+pub mod Forming

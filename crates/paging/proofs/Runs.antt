@@ -1,11 +1,11 @@
 -- A run over two traces, one behind the other, is the run over the first and then, from where that led, the run over the second.
 -- What the first run sees to come is the second trace.
 use Prim.Native.Nat.{ℕ}
-use mathlib.Core.Path.{_≡_, refl, ap, _∙_}
 use mathlib.Core.List.{List, [], _∷_, _++_, append-assoc}
-use Rattle.paging.specs.Policy.{Rule, Kind, kindOf, serve, holds, kinds}
-use Rattle.paging.specs.Lru.{lruRule}
+use mathlib.Core.Path.{_≡_, refl, ap, _∙_}
 use Rattle.paging.specs.Layers.{Layers, LayerRule, layered, layerRule, layersAfter, layerRules}
+use Rattle.paging.specs.Lru.{lruRule}
+use Rattle.paging.specs.Policy.{Rule, Kind, kindOf, serve, holds, kinds}
 
 module _ (rule : Rule) (k : ℕ) where
   pub holds-append : (xs ys later held : List ℕ) → holds rule k (xs ++ ys) later held ≡ holds rule k ys later (holds rule k xs (ys ++ later) held)

@@ -5,3 +5,4 @@ pub mod Lru
 pub mod Min
 pub mod Layers
 pub mod Table
+pub mod Rows

@@ -1,7 +1,7 @@
 -- Serving a trace with a rule for bundles (document 01, "LRU" and "MIN", which differ only in the rule). The pages held are a list,
 -- from the least to the most recently requested.
 use Prim.Native.Nat.{ℕ, suc}
-use mathlib.Core.Bool.{Bool, true, false, not}
+use mathlib.Core.Bool.{Bool, true, false}
 use mathlib.Core.List.{List, [], _∷_, _++_}
 use lib.Dec.{ltb}
 use lib.ListN.{length}

@@ -5,7 +5,7 @@ use mathlib.Core.Bool.{Bool, true, false, not}
 use mathlib.Core.List.{List, [], _∷_, _++_}
 use lib.Dec.{eqb, leb, ltb}
 use lib.ListN.{length}
-use Rattle.lists.specs.Choice.{pick, _and_, _or_}
+use Rattle.lists.specs.Choice.{pick, _and_}
 use Rattle.lists.specs.Pages.{mem, erase, eraseAll}
 
 -- an entry of a schedule, as a file has it: at request t a bundle of pages is written back (EV), or a page is fetched ahead (PF)

@@ -1,14 +1,13 @@
 -- The layers as a table (document 01, "Layers"): rows of a layer number and a page, by number rising and page rising within it. Pages of
 -- L0 have no row. One pass renumbers, drops what has come to L0, sorts, and puts the requested page last.
-use Prim.Native.Nat.{ℕ, zero, suc, max}
+use Prim.Native.Nat.{ℕ, zero, suc, _+_, max}
 use mathlib.Core.Bool.{Bool, not}
 use mathlib.Core.List.{List, [], _∷_, _++_, map}
-use lib.Dec.{eqb, leb, ltb}
-use lib.ListN.{length, drop}
+use lib.Dec.{eqb, ltb}
 use Rattle.lists.specs.Choice.{pick}
-use Rattle.lists.specs.Pages.{count, filter}
+use Rattle.lists.specs.Pages.{bit, count, filter}
 use Rattle.lists.specs.Sorting.{Row, sortRows}
-use Rattle.paging.specs.Layers.{LayerRule, layerRule, renumbered, topAfter}
+use Rattle.paging.specs.Layers.{LayerRule, layerRule, isJoin, renumbered, topAfter}
 
 -- the number of a page: the largest of its rows, 0 where it has none
 abbrev pub numberIn : List Row → ℕ → ℕ
@@ -47,3 +46,29 @@ sizeOf i rows = count (λ row. eqb (row .number) i) rows
 abbrev pub revealed : ℕ → List Row → ℕ
 revealed zero rows = 0
 revealed (suc i) rows = pick (eqb (sizeOf (suc i) rows) 1) (suc (revealed i rows)) 0
+
+-- Along a trace, from the empty table
+
+-- the used rows, s, and the bundles counted so far
+pub record Tabled : Type 0 where
+  pub rows : List Row
+  pub s : ℕ
+  pub joins : ℕ
+
+abbrev pub nothingYet : Tabled
+nothingYet = record { rows = []; s = 0; joins = 0 }
+
+-- after one request
+abbrev pub tabledNext : (k a p : ℕ) → Tabled → Tabled
+tabledNext k a p T =
+    let rule = ruleIn k (T .s) p (T .rows) in
+    record {
+      rows = rowsAfter k a (T .s) p (T .rows);
+      s = topAfter rule k a (T .s);
+      joins = T .joins + bit (isJoin rule);
+    }
+
+-- after the requests of a trace
+abbrev pub tabledAfter : (k a : ℕ) → (trace : List ℕ) → Tabled → Tabled
+tabledAfter k a [] T = T
+tabledAfter k a (p ∷ ps) T = tabledAfter k a ps (tabledNext k a p T)

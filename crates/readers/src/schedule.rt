@@ -1,8 +1,8 @@
 // The schedule reader. At offset 0 it expects KA, elsewhere EV, PF or the end.
 ghost use mathlib.Core.Path.{_≡_};
-ghost use Rattle.records.specs.Reading.{readSchedule};
-ghost use Rattle.records.specs.Answers.{scheduleAnswer};
-use records::read::ScheduleRecord;
+ghost use Rattle.reading.specs.Reading.{readSchedule};
+ghost use Rattle.reading.specs.Answers.{scheduleAnswer};
+use reading::ScheduleRecord;
 
 pub struct ScheduleReader<'a> {
     pub file: &'a [u8],
@@ -17,11 +17,11 @@ impl<'a> ScheduleReader<'a> {
         ScheduleReader { file, at: 0 }
     }
 
-    // What stands at its offset. `records::read::pages` gives a bundle's pages as a part of the file.
+    // What stands at its offset. `reading::pages` gives a bundle's pages as a part of the file.
     pub fn read(self) -> ScheduleRecord
         ensures { λ r. ⌜ scheduleAnswer r ≡ readSchedule 256 (now (self .entry .file)) (self .entry .at) ⌝ }
     {
-        records::read::schedule(self.file, self.at)
+        reading::schedule(self.file, self.at)
     }
 
     // The same file's reader at another offset: a record says where the next one stands.

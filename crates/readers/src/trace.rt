@@ -1,8 +1,8 @@
 // The trace reader. At offset 0 it expects KA, elsewhere RQ or the end.
 ghost use mathlib.Core.Path.{_≡_};
-ghost use Rattle.records.specs.Reading.{readTrace};
-ghost use Rattle.records.specs.Answers.{traceAnswer};
-use records::read::TraceRecord;
+ghost use Rattle.reading.specs.Reading.{readTrace};
+ghost use Rattle.reading.specs.Answers.{traceAnswer};
+use reading::TraceRecord;
 
 pub struct TraceReader<'a> {
     pub file: &'a [u8],
@@ -21,7 +21,7 @@ impl<'a> TraceReader<'a> {
     pub fn read(self) -> TraceRecord
         ensures { λ r. ⌜ traceAnswer r ≡ readTrace (now (self .entry .file)) (self .entry .at) ⌝ }
     {
-        records::read::trace(self.file, self.at)
+        reading::trace(self.file, self.at)
     }
 
     // The same file's reader at another offset: a record says where the next one stands.

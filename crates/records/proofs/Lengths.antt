@@ -1,15 +1,15 @@
 -- Each record's length is what the code's lengths say, and a record of numbers of their widths is one of bytes.
-use Prim.Native.Nat.{ℕ, suc, _+_, _*_, _<_, _≤_}
-use mathlib.Core.Path.{_≡_, refl, sym, _∙_}
-use mathlib.Core.List.{List, [], _∷_, _++_}
+use Prim.Native.Nat.{ℕ, suc, _+_, _<_, _≤_}
 use native.Mathlib.Omega.{arith}
-use borrow.Author.Tests.{lt-ltb, le-ltb}
+use mathlib.Core.List.{List, [], _∷_, _++_}
+use mathlib.Core.Path.{_≡_, refl, sym, _∙_}
 use lib.ListN.{length}
+use borrow.Author.Tests.{lt-ltb, le-ltb}
 use Rattle.paging.specs.Schedule.{Entry, ev, pf}
 use Rattle.wire.specs.Numbers.{Bytes, bytes16, bytes32, allBytes32}
 use Rattle.wire.proofs.Numbers.{length-allBytes32, bytes-append, bytes16-are, bytes32-are, allBytes32-are}
-use Rattle.records.specs.Marks.{markKA, markRQ, markEV, markPF}
 use Rattle.records.specs.Bytes.{kaBytes, rqBytes, evBytes, pfBytes, entryBytes, joined, traceBytes, scheduleBytes, evLength, tableEntry, Pages, Named, AllNamed, Writable, AllWritable}
+use Rattle.records.specs.Marks.{markKA, markRQ, markEV, markPF}
 
 -- ---- lengths
 

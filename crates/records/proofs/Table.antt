@@ -1,10 +1,10 @@
 -- A table by its rule: each entry of the list of a function's values is that value. A constant table of the source computes to such
 -- a list, so this one law is its rule at every entry.
 use Prim.Native.Nat.{ℕ, zero, suc, _+_, _<_}
-use mathlib.Core.Path.{_≡_, refl, ap, _∙_}
-use mathlib.Core.List.{List, [], _∷_}
-use native.Mathlib.Omega.{arith}
 use native.Mathlib.Nat.{add-zero}
+use native.Mathlib.Omega.{arith}
+use mathlib.Core.List.{List, [], _∷_}
+use mathlib.Core.Path.{_≡_, ap, _∙_}
 use lib.ListN.{getD}
 
 -- f's values at i, i + 1, .., n of them

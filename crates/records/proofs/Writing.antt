@@ -1,21 +1,20 @@
 -- The writers' laws: stores one behind the other are one record, the part of the lent bytes comes back into the whole, and what a
 -- refusal's number makes of the answer and the bytes.
 use Prim.Native.Nat.{ℕ, zero, suc, _+_, _-_, _*_, _<_, _≤_}
-use mathlib.Core.Path.{_≡_, refl, sym, ap, _∙_}
+use native.Mathlib.Nat.{zero-add}
+use native.Mathlib.Omega.{arith}
 use mathlib.Core.Bool.{Bool, true, false}
 use mathlib.Core.List.{List, [], _∷_, _++_, append-assoc, append-nil}
-use native.Mathlib.Omega.{arith}
-use native.Mathlib.Nat.{zero-add}
-use borrow.Author.Tests.{lt-ltb, le-ltb, eq-eqb, ne-eqb, ltb-false, eqb-false}
-use lib.Dec.{eqb, ltb}
+use mathlib.Core.Path.{_≡_, refl, sym, ap, _∙_}
+use lib.Dec.{ltb}
 use lib.ListN.{length, drop, take, getD, length-drop, length-take, length-append, take-append-drop, drop-of-length-le}
 use lib.Seq.{drop-drop, take-all, take-suc}
+use borrow.Author.Tests.{lt-ltb, le-ltb, eq-eqb, ne-eqb, ltb-false}
 use Rattle.lists.specs.Choice.{pick, _or_}
 use Rattle.paging.specs.Refusals.{refuse, sizesRefusal}
 use Rattle.paging.proofs.Refusals as sizes
 use Rattle.wire.specs.Numbers.{bytes32, allBytes32, placed}
 use Rattle.wire.proofs.Numbers.{placed-join, length-placed, length-allBytes32}
-use Rattle.records.specs.Bytes.{evBytes, evLength}
 use Rattle.records.specs.Writing.{Wrote, roomRefusal, pagesRefused, wrote, outAfter, putLength, putBytes}
 
 -- ---- stores one behind the other, from the start on

@@ -2,11 +2,11 @@
 -- with a KA; requests follow it in a trace, bundles and pages fetched ahead in a schedule.
 use Prim.Native.Nat.{ℕ, _+_, _*_, _<_, _≤_}
 use mathlib.Core.List.{List, [], _∷_, _++_}
-use lib.ListN.{length, getD}
 use lib.Dec.{ltb}
+use lib.ListN.{length, getD}
 use Rattle.lists.specs.Choice.{pick}
-use Rattle.wire.specs.Numbers.{bytes16, bytes32, allBytes32}
 use Rattle.paging.specs.Schedule.{Entry, ev, pf}
+use Rattle.wire.specs.Numbers.{bytes16, bytes32, allBytes32}
 use Rattle.records.specs.Marks.{markKA, markRQ, markEV, markPF}
 
 abbrev pub kaBytes : ℕ → ℕ → List ℕ

@@ -1,8 +1,8 @@
 -- Marks (document 01, "Files"): the two letters at the start of a record, which alone say what record it is.
 use Prim.Native.Nat.{ℕ, _+_, _*_}
 use mathlib.Core.List.{List}
-use lib.ListN.{length}
 use lib.Dec.{eqb, ltb}
+use lib.ListN.{length}
 use Rattle.lists.specs.Choice.{pick}
 use Rattle.wire.specs.Numbers.{num16}
 

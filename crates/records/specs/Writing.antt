@@ -3,8 +3,8 @@
 use Prim.Native.Nat.{ℕ, zero, suc, _+_, _-_}
 use mathlib.Core.Bool.{Bool}
 use mathlib.Core.List.{List}
-use lib.ListN.{length}
 use lib.Dec.{eqb, ltb}
+use lib.ListN.{length}
 use Rattle.lists.specs.Choice.{pick, _or_}
 use Rattle.paging.specs.Refusals.{refuse, sizesRefusal}
 use Rattle.wire.specs.Numbers.{placed}

@@ -1,7 +1,7 @@
 // The kind of a record, which its mark alone decides (document 01, "Files").
 ghost use mathlib.Core.Path.{_≡_};
-ghost use Rattle.records.specs.Marks.{markOf};
 ghost use Rattle.records.specs.Answers.{kindMark};
+ghost use Rattle.records.specs.Marks.{markOf};
 
 pub enum Kind {
     Ka,

@@ -1,11 +1,9 @@
 // The records of a trace and of a schedule (document 01, "Files"): KA has the sizes, RQ a request, EV a bundle, PF a page fetched ahead.
 //   kind    the kind of a record, by its mark alone
 //   length  an EV's length
-//   read    the trace reader and the schedule reader, at an offset of a file
 //   write   a writer for each record, into lent bytes from an offset
 //   put     below the writers: a record at the start of the rest of the lent bytes
 pub mod kind;
 pub mod length;
 pub mod put;
-pub mod read;
 pub mod write;

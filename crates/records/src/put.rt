@@ -1,8 +1,8 @@
 // Below the writers: a record goes to the start of the rest of the lent bytes. Each function answers the record's length; where
 // the rest is too short it answers 0 and changes nothing.
-ghost use mathlib.Core.Path.{_≡_};
-ghost use mathlib.Core.Bool.{false};
 ghost use Prim.Native.Nat.{_+_, _*_, _≤_};
+ghost use mathlib.Core.Bool.{false};
+ghost use mathlib.Core.Path.{_≡_};
 ghost use lib.ListN.{length};
 ghost use Rattle.wire.specs.Numbers.{allBytes32, placed};
 ghost use Rattle.records.specs.Bytes.{kaBytes, rqBytes, evBytes, pfBytes};

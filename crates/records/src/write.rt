@@ -1,11 +1,11 @@
 // The writers (document 01, "Files"): each record into lent bytes from an offset on. Own refusals first, then 9, then 8.
-ghost use mathlib.Core.Path.{_≡_};
 ghost use Prim.Native.Nat.{_-_};
+ghost use mathlib.Core.Path.{_≡_};
 ghost use lib.Dec.{ltb};
 ghost use Rattle.paging.specs.Refusals.{refuse};
+ghost use Rattle.records.specs.Answers.{writtenNumbers};
 ghost use Rattle.records.specs.Bytes.{kaBytes, rqBytes, evBytes, pfBytes};
 ghost use Rattle.records.specs.Writing.{kaRefusal, rqRefusal, evRefusal, pfRefusal, wrote, outAfter};
-ghost use Rattle.records.specs.Answers.{writtenNumbers};
 use crate::length;
 use crate::put;
 

@@ -1,31 +1,29 @@
 -- For sizes that are right and a trace that is short enough no call refuses, and the answers are the figures.
 use Prim.Native.Nat.{ℕ, _≤_}
 use native.Mathlib.Omega.{arith}
-use mathlib.Core.Path.{_≡_, refl, sym, ap, _∙_}
-use mathlib.Core.Bool.{Bool, true, false}
+use mathlib.Core.Bool.{Bool, false}
 use mathlib.Core.List.{List}
-use lib.Dec.{eqb, ltb}
+use mathlib.Core.Path.{_≡_, refl, sym, ap, _∙_}
+use lib.Dec.{ltb}
 use lib.ListN.{length, take, replicate}
 use borrow.Author.Tests.{le-ltb, eq-eqb, ne-eqb}
 use Rattle.lists.specs.Choice.{pick}
-use Rattle.paging.specs.Refusals.{refuse, sizesRefusal}
-use Rattle.paging.specs.Policy.{bundleCount, loadCount}
-use Rattle.paging.specs.Lru.{lruRule}
-use Rattle.paging.specs.Min.{bestCount, minLoads}
 use Rattle.paging.specs.Layers.{noLayers, layersAfter, joinCount}
-use Rattle.min.specs.Answers as min
-use Rattle.min.specs.declared.Counts as min-counts
+use Rattle.paging.specs.Refusals.{sizesRefusal}
+use Rattle.paging.proofs.Refusals.{sizes-pass, sizes-taken}
+use Rattle.paging.proofs.Table.{tabled-top}
 use Rattle.lru.specs.Refusing as lru
 use Rattle.lru.specs.declared.Totals as lru-totals
-use Rattle.layers.specs.Traces.{tabledAfter, nothingYet, traceTotals}
+use Rattle.layers.specs.Traces.{traceTotals}
 use Rattle.layers.specs.declared.LayersTotals.{LayersTotals}
-use Rattle.paging.proofs.Refusals.{sizes-pass, sizes-taken}
-use Rattle.layers.proofs.Steps.{trace-accepted, trace-counts, tabled-top}
-use Rattle.report.specs.Traces.{TraceFile, whole, damaged, traceFile}
-use Rattle.report.specs.Reading.{fileOf}
+use Rattle.layers.proofs.Steps.{trace-accepted, trace-counts}
+use Rattle.min.specs.Answers as min
+use Rattle.min.specs.declared.Counts as min-counts
 use Rattle.report.specs.Figures.{counts, layersCounts, figures, revealedAfter, refusedReport, reported, reportOf}
-use Rattle.report.specs.declared.reading.TraceRead.{TraceRead}
+use Rattle.report.specs.Reading.{fileOf}
+use Rattle.report.specs.Traces.{whole, damaged, traceFile}
 use Rattle.report.specs.declared.Report.{Report}
+use Rattle.report.specs.declared.input.TraceRead.{TraceRead}
 
 module _ (k a : ℕ) (trace : List ℕ) (pos : 1 ≤ a) (le : a ≤ k) (small : k ≤ 256) (short : length trace ≤ 4096) where
   sizes-are : (rest : ℕ) → sizesRefusal k a rest ≡ rest

@@ -1,25 +1,25 @@
 -- The loop that reads a trace's requests into a list: what is read so far stands before what the file holds from the offset on.
-use Prim.Native.Nat.{ℕ, zero, suc, _+_, _-_, _≤_, _<_}
-use native.Mathlib.Omega.{arith}
+use Prim.Native.Nat.{ℕ, _+_, _-_, _≤_, _<_}
 use native.Mathlib.Numerals.{add-one}
-use mathlib.Core.Path.{_≡_, refl, sym, ap, _∙_}
-use mathlib.Core.Bool.{true, false}
+use native.Mathlib.Omega.{arith}
+use mathlib.Core.Bool.{false}
 use mathlib.Core.List.{List, [], _∷_, _++_, append-assoc, append-nil}
+use mathlib.Core.Path.{_≡_, refl, sym, ap, _∙_}
 use lib.Dec.{eqb, ltb}
 use lib.ListN.{length, take, set, length-set, length-append}
 use lib.Seq.{take-suc-set, length-take-le}
 use borrow.Author.Tests.{lt-ltb, le-ltb, ne-eqb, eqb-true}
 use Rattle.lists.proofs.Choice.{cases}
 use Rattle.records.specs.Marks.{markAt}
-use Rattle.records.specs.Reading.{Answer, refused, ended, sizes, request, readTrace, kaRead}
-use Rattle.records.specs.Files.{File, before, only, requestsFrom}
-use Rattle.records.proofs.Reading.{trace-first}
 use Rattle.records.proofs.Writing.{sizes-fine}
-use Rattle.records.proofs.Facts.{RqAt, trace-says}
-use Rattle.records.proofs.Walk.{requests-refused, requests-ended, requests-request}
-use Rattle.report.specs.Traces.{TraceFile, whole, damaged, traceFile, requestsRefusal}
+use Rattle.reading.specs.Files.{File, before, only, requestsFrom}
+use Rattle.reading.specs.Reading.{refused, ended, sizes, request, readTrace, kaRead}
+use Rattle.reading.proofs.Facts.{trace-says}
+use Rattle.reading.proofs.Reading.{trace-first}
+use Rattle.reading.proofs.Walk.{requests-refused, requests-ended, requests-request}
 use Rattle.report.specs.Reading.{Filled, fileOf, ReadTo}
-use Rattle.report.specs.declared.reading.Listed.{Listed}
+use Rattle.report.specs.Traces.{whole, traceFile}
+use Rattle.report.specs.declared.input.Listed.{Listed}
 
 pub record ReadSoFar (limit : ℕ) (file : List ℕ) (pages : List ℕ) (at n : ℕ) : Type 0 where
   pub behind : 0 < at

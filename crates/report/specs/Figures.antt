@@ -3,12 +3,11 @@
 use Prim.Native.Nat.{ℕ}
 use mathlib.Core.List.{List}
 use lib.ListN.{length}
-use Rattle.paging.specs.Policy.{bundleCount, loadCount}
+use Rattle.paging.specs.Layers.{joinCount, layersAfter, noLayers}
 use Rattle.paging.specs.Lru.{lruRule}
 use Rattle.paging.specs.Min.{bestCount, minLoads}
-use Rattle.paging.specs.Layers.{joinCount, layersAfter, noLayers}
-use Rattle.paging.specs.Table.{revealed}
-use Rattle.layers.specs.Traces.{tabledAfter, nothingYet}
+use Rattle.paging.specs.Policy.{bundleCount, loadCount}
+use Rattle.paging.specs.Table.{revealed, tabledAfter, nothingYet}
 use Rattle.report.specs.Traces.{TraceFile, whole, damaged, traceFile}
 use Rattle.report.specs.declared.Counts.{Counts}
 use Rattle.report.specs.declared.LayersCounts.{LayersCounts}

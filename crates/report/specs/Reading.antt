@@ -1,14 +1,14 @@
 -- What reading a trace file into a lent list promises. The list's length is the most requests that are taken.
 use Prim.Native.Nat.{ℕ, _≤_}
-use mathlib.Core.Path.{_≡_}
 use mathlib.Core.List.{List}
+use mathlib.Core.Path.{_≡_}
 use lib.Dec.{eqb}
 use lib.ListN.{length, take}
 use Rattle.lists.specs.Choice.{pick}
-use Rattle.records.specs.Files.{File}
+use Rattle.reading.specs.Files.{File}
 use Rattle.report.specs.Traces.{TraceFile, whole, damaged, traceFile, requestsRefusal}
-use Rattle.report.specs.declared.reading.Listed.{Listed}
-use Rattle.report.specs.declared.reading.TraceRead.{TraceRead}
+use Rattle.report.specs.declared.input.Listed.{Listed}
+use Rattle.report.specs.declared.input.TraceRead.{TraceRead}
 
 -- the requests behind the KA: a refusal's number, or 0 with the pages in the first places of the list
 pub record Filled (limit : ℕ) (file : File ℕ) (r : Listed) (pages : List ℕ) : Type 0 where

@@ -6,8 +6,8 @@ use lib.Dec.{eqb, ltb}
 use lib.ListN.{length}
 use Rattle.lists.specs.Choice.{pick}
 use Rattle.paging.specs.Refusals.{refuse}
-use Rattle.records.specs.Reading.{Answer, refused, ended, sizes, request, bundle, fetch, readTrace}
-use Rattle.records.specs.Files.{File, requestsFrom}
+use Rattle.reading.specs.Files.{File, requestsFrom}
+use Rattle.reading.specs.Reading.{Answer, refused, ended, sizes, request, bundle, fetch, readTrace}
 
 pub data TraceFile : Type 0 where
   whole : (k a : ℕ) (pages : List ℕ) → TraceFile

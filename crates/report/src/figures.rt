@@ -1,6 +1,6 @@
 // The figures of a trace that was read: MIN's, LRU's and the layers'.
-ghost use mathlib.Core.Path.{_≡_};
 ghost use Prim.Native.Nat.{_≤_};
+ghost use mathlib.Core.Path.{_≡_};
 ghost use lib.ListN.{length};
 ghost use Rattle.report.specs.Figures.{figures};
 use crate::Counts;

@@ -3,7 +3,7 @@ ghost use mathlib.Core.Path.{_≡_};
 ghost use Rattle.report.specs.Figures.{reportOf, refusedReport};
 
 mod figures;
-mod reading;
+mod input;
 
 // Bundles and loads of a policy.
 pub struct Counts {
@@ -70,7 +70,7 @@ pub fn of_input(input: &[u8]) -> Report
     ensures { λ r. ⌜ r ≡ reportOf (now (input .entry)) ⌝ }
 {
     let mut pages = [0u32; 4096];
-    let read = reading::trace(input, &mut pages);
+    let read = input::trace(input, &mut pages);
     if read.refusal != 0 {
         return Report::refused(read.refusal);
     }

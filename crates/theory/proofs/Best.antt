@@ -1,24 +1,24 @@
 -- The best count (document 01, "What demand 3 compares"): the bundles of MIN's rule, as EVs, are a legal schedule with that cost, and no
 -- legal schedule costs less; the layers count it; it never rises with k.
 use Prim.Native.Nat.{ℕ, _≤_}
-use mathlib.Core.Bool.{true}
-use mathlib.Core.Path.{_≡_, refl, sym, _∙_}
-use mathlib.Core.List.{List, [], _∷_}
 use native.Mathlib.Omega.{arith}
+use mathlib.Core.Bool.{true}
+use mathlib.Core.List.{List, [], _∷_}
+use mathlib.Core.Path.{_≡_, refl, sym, _∙_}
 use lib.ListN.{length}
 use borrow.Author.Tests.{leb-true, le-leb}
 use Rattle.lists.specs.Pages.{count}
 use Rattle.lists.proofs.Choice.{and-l, and-r, and-i}
-use Rattle.paging.specs.Schedule.{Entry, Turn, afterTurn, turnLegal, legal, cost, turnsFrom, serves, entriesCost}
-use Rattle.paging.specs.Policy.{Rule, isBundled, isLoad, kinds, bundles}
-use Rattle.paging.specs.Min.{minRule, bestCount, minLoads}
 use Rattle.paging.specs.Layers.{noLayers, layerRules, joinCount}
+use Rattle.paging.specs.Min.{minRule, bestCount, minLoads}
+use Rattle.paging.specs.Policy.{Rule, isBundled, isLoad, kinds, bundles}
+use Rattle.paging.specs.Schedule.{Entry, Turn, afterTurn, turnLegal, legal, cost, turnsFrom, serves, entriesCost}
 use Rattle.theory.specs.Farthest.{Farthest}
 use Rattle.theory.specs.Loads.{fromL0}
-use Rattle.theory.proofs.Orders.{minRule-is-farthest}
 use Rattle.theory.proofs.Layers.{layers-count-min-bundles, layers-count-min-loads}
-use Rattle.theory.proofs.Schedules.{cost-of-entries, bundles-serve, bundles-cost}
 use Rattle.theory.proofs.Optimal.{farthest-is-optimal}
+use Rattle.theory.proofs.Orders.{minRule-is-farthest}
+use Rattle.theory.proofs.Schedules.{cost-of-entries, bundles-serve, bundles-cost}
 
 module _ (k a : ℕ) (pos : 1 ≤ a) (le : a ≤ k) where
   -- every rule that takes farthest pages makes as many bundles and loads

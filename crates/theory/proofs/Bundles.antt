@@ -1,20 +1,19 @@
 -- What a bundle takes out, and how next uses and the nearest requests are joined.
 use Prim.Native.Nat.{ℕ, zero, suc, _+_, _≤_, _<_}
+use native.Mathlib.Omega.{arith}
 use mathlib.Core.Bool.{Bool, true, false}
+use mathlib.Core.List.{List, [], _∷_, _++_}
 use mathlib.Core.Logic.{_⊎_, inl, inr}
 use mathlib.Core.Path.{_≡_, refl}
-use mathlib.Core.List.{List, [], _∷_, _++_}
-use native.Mathlib.Omega.{arith}
 use lib.Dec.{eqb, ltb}
 use lib.ListN.{length, take, length-append}
 use borrow.Author.Tests.{eqb-true, ltb-true, ltb-false}
 use Rattle.lists.specs.Pages.{mem, toEnd, erase, eraseAll, count}
 use Rattle.lists.proofs.Choice.{cases, split, clash, and-l, and-r, and-i, or-l, or-r, or-split, bit-true, eqb-self}
-use Rattle.lists.proofs.Pages.{Once, count-erase, count-all, count-some, mem-of-count, find-some, mem-eraseAll, length-same, toEnd-same}
-use Rattle.lists.proofs.Pages.{once-snoc, once-toEnd, once-eraseAll}
-use Rattle.paging.specs.Schedule.{heldInTurn}
-use Rattle.paging.specs.Policy.{Rule, Kind, hit, load, bundled, kindOf, serve}
+use Rattle.lists.proofs.Pages.{Once, count-erase, count-all, count-some, mem-of-count, find-some, mem-eraseAll, length-same, toEnd-same, once-snoc, once-toEnd, once-eraseAll}
 use Rattle.paging.specs.Min.{nextUse}
+use Rattle.paging.specs.Policy.{Rule, Kind, hit, load, bundled, kindOf, serve}
+use Rattle.paging.specs.Schedule.{heldInTurn}
 use Rattle.theory.specs.Farthest.{Farthest}
 
 -- Taking out pages that are held

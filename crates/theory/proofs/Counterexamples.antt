@@ -2,17 +2,17 @@
 -- edit of the definition.
 use Prim.Native.Nat.{ℕ, _+_, _*_, _/_, _<_}
 use mathlib.Core.Bool.{true}
-use mathlib.Core.Path.{_≡_, refl}
 use mathlib.Core.List.{List, [], _∷_}
+use mathlib.Core.Path.{_≡_, refl}
 use lib.Dec.{ltb→lt}
 use lib.ListN.{length, take}
 use Rattle.lists.specs.Choice.{_and_, _or_}
 use Rattle.lists.specs.Pages.{count}
 use Rattle.lists.specs.Sorting.{sortBy}
-use Rattle.paging.specs.Schedule.{Entry, ev, pf, serves}
-use Rattle.paging.specs.Policy.{Rule, isLoad, kinds, bundles, bundleCount}
 use Rattle.paging.specs.Lru.{lruRule}
 use Rattle.paging.specs.Min.{farther, minRule, bestCount}
+use Rattle.paging.specs.Policy.{Rule, isLoad, kinds, bundles, bundleCount}
+use Rattle.paging.specs.Schedule.{Entry, ev, pf, serves}
 
 abbrev shift : List ℕ
 shift = 1 ∷ 2 ∷ 3 ∷ 4 ∷ 2 ∷ 5 ∷ 6 ∷ 1 ∷ []

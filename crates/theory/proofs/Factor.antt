@@ -1,22 +1,21 @@
 -- The factor: a policy that protects its pages makes at most k/a, rounded up, times the bundles of a rule that takes farthest pages.
 use Prim.Native.Nat.{ℕ, _+_, _*_, _≤_, _<_}
-use mathlib.Core.Bool.{true, false}
-use mathlib.Core.Logic.{inl}
-use mathlib.Core.Path.{_≡_, refl, ap, _∙_}
-use mathlib.Core.List.{List, [], _∷_, _++_, map}
 use native.Mathlib.Nat.{zero-add, add-zero, add-assoc}
 use native.Mathlib.Omega.{arith}
+use mathlib.Core.Bool.{true, false}
+use mathlib.Core.List.{List, [], _∷_, _++_, map}
+use mathlib.Core.Logic.{inl}
+use mathlib.Core.Path.{_≡_, refl, ap, _∙_}
 use lib.Dec.{eqb, ltb}
 use lib.ListN.{length, length-append}
 use borrow.Author.Tests.{eqb-true, ltb-true, ltb-false}
 use Rattle.lists.specs.Choice.{pick}
 use Rattle.lists.specs.Pages.{mem, without, toEnd, eraseAll, bit, count}
 use Rattle.lists.proofs.Choice.{cases, split, clash, or-split, eqb-sym}
-use Rattle.lists.proofs.Pages.{Same, Once, once-distinct, once-same, once-snoc, once-eraseAll, length-same, mem-snoc}
-use Rattle.lists.proofs.Pages.{mem-append-l, mem-kept}
+use Rattle.lists.proofs.Pages.{Same, Once, once-distinct, once-same, once-snoc, once-eraseAll, length-same, mem-snoc, mem-append-l, mem-kept}
 use Rattle.paging.specs.Policy.{Rule, isBundled, kindOf, serve, kinds}
-use Rattle.theory.specs.Farthest.{Farthest}
 use Rattle.theory.specs.Factor.{Policy, policyKinds, Step, Protects}
+use Rattle.theory.specs.Farthest.{Farthest}
 use Rattle.theory.proofs.Bundles.{length-taken, by-kind, Fits, fits-serve, fits-start, absent-after}
 use Rattle.theory.proofs.Phases.{Phase, phase-paid, phase-clear, phase-hit, phase-load, phase-bundle}
 

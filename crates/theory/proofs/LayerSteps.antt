@@ -1,22 +1,19 @@
 -- One request of the layers beside one of MIN: what joins them along a trace, and that each rule of source document 001, Figure 1, keeps it.
 use Prim.Native.Nat.{ℕ, suc, _+_, _-_, _≤_, _<_, min}
+use native.Mathlib.Omega.{arith}
 use mathlib.Core.Bool.{Bool, true, false}
+use mathlib.Core.List.{List, [], _∷_, _++_}
 use mathlib.Core.Logic.{_⊎_, inl, inr}
 use mathlib.Core.Path.{_≡_, refl, _∙_}
-use mathlib.Core.List.{List, [], _∷_, _++_}
-use native.Mathlib.Omega.{arith}
 use lib.Dec.{eqb, leb, ltb}
 use lib.ListN.{length, take, length-append}
 use borrow.Author.Tests.{eqb-true, ltb-true, ltb-false, leb-true, le-leb}
 use Rattle.lists.specs.Choice.{pick, _and_}
 use Rattle.lists.specs.Pages.{mem, without, toEnd, eraseAll, bit, count}
-use Rattle.lists.proofs.Choice.{tests, cases, split, clash, and-l, and-r, and-i, and-false-l, or-l, or-r, or-split}
-use Rattle.lists.proofs.Choice.{bit-true, bit-false, bit-le, eqb-self, eqb-sym}
-use Rattle.lists.proofs.Pages.{Once, count-snoc, count-length, count-mono, count-members, count-none, count-all, count-some}
-use Rattle.lists.proofs.Pages.{count-without-once, mem-snoc, mem-append-l, mem-kept, mem-eraseAll-kept, count-eraseAll-le, once-snoc}
-use Rattle.lists.proofs.Pages.{once-toEnd, once-eraseAll, toEnd-same, length-same, mem-eraseAll, without-gone}
-use Rattle.paging.specs.Policy.{Rule, Kind, hit, load, bundled, kindOf, serve}
+use Rattle.lists.proofs.Choice.{tests, cases, split, clash, and-l, and-r, and-i, and-false-l, or-l, or-r, or-split, bit-true, bit-false, bit-le, eqb-self, eqb-sym}
+use Rattle.lists.proofs.Pages.{Once, count-snoc, count-length, count-mono, count-members, count-none, count-all, count-some, count-without-once, mem-snoc, mem-append-l, mem-kept, mem-eraseAll-kept, count-eraseAll-le, once-snoc, once-toEnd, once-eraseAll, toEnd-same, length-same, mem-eraseAll, without-gone}
 use Rattle.paging.specs.Layers.{Layers, noLayers, LayerRule, append, join, lift, layerRule, renumbered, topAfter, layered}
+use Rattle.paging.specs.Policy.{Rule, Kind, hit, load, bundled, kindOf, serve}
 use Rattle.theory.specs.Farthest.{Farthest}
 use Rattle.theory.proofs.Bundles.{count-taken, length-taken, taken-held, not-absent, absent-after, farthest-cut}
 

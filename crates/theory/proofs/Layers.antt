@@ -1,23 +1,20 @@
 -- The layers count MIN's bundles, whatever follows the trace (source document 001, Theorem 1, here by one invariant along the trace,
 -- for every rule that takes farthest pages).
 use Prim.Native.Nat.{ℕ, zero, suc, _+_, _≤_, _<_}
-use mathlib.Core.Bool.{Bool, true, false}
-use mathlib.Core.Path.{_≡_, refl, sym, ap, subst, _∙_}
-use mathlib.Core.List.{List, [], _∷_, _++_, map}
 use native.Mathlib.Omega.{arith}
+use mathlib.Core.Bool.{Bool, true, false}
+use mathlib.Core.List.{List, [], _∷_, _++_, map}
+use mathlib.Core.Path.{_≡_, refl, sym, ap, subst, _∙_}
 use lib.Dec.{eqb, ltb}
 use lib.ListN.{length, getD}
 use borrow.Author.Tests.{eq-eqb, not-true}
 use Rattle.lists.specs.Pages.{mem, distinct, count}
-use Rattle.lists.proofs.Choice.{tests, and-l, and-r, or-none-l, or-none-r}
-use Rattle.lists.proofs.Choice.{eqb-self}
-use Rattle.lists.proofs.Pages.{count-map, mem-here}
-use Rattle.lists.proofs.Pages.{mem-there}
+use Rattle.lists.proofs.Choice.{tests, and-l, and-r, or-none-l, or-none-r, eqb-self}
+use Rattle.lists.proofs.Pages.{count-map, mem-here, mem-there}
+use Rattle.paging.specs.Layers.{Layers, noLayers, LayerRule, append, join, lift, isJoin, layered, layersAfter, layerRules, joinCount}
 use Rattle.paging.specs.Policy.{Rule, Kind, hit, load, bundled, isBundled, isLoad, serve, holds, kinds}
-use Rattle.paging.specs.Layers.{Layers, noLayers, LayerRule, append, join, lift, isJoin, layered}
-use Rattle.paging.specs.Layers.{layersAfter, layerRules, joinCount}
-use Rattle.theory.specs.Loads.{fromL0}
 use Rattle.theory.specs.Farthest.{Farthest}
+use Rattle.theory.specs.Loads.{fromL0}
 use Rattle.theory.proofs.Bundles.{not-absent}
 use Rattle.theory.proofs.LayerSteps.{layeredBy, Agree, start-agrees, Together, appends, joins, lifts, step-agrees}
 

@@ -1,4 +1,3 @@
-pub mod Table
 pub mod Bundles
 pub mod Orders
 pub mod LayerSteps

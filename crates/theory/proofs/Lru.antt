@@ -1,10 +1,10 @@
 -- Least recent use protects the pages requested since MIN's last bundle: they stand behind the others in its list. So the factor holds for it.
 use Prim.Native.Nat.{ℕ, _*_, _≤_}
+use native.Mathlib.Omega.{arith}
 use mathlib.Core.Bool.{Bool, true, false}
+use mathlib.Core.List.{List, [], _∷_, _++_, map}
 use mathlib.Core.Logic.{inl, inr}
 use mathlib.Core.Path.{_≡_, refl, ap, _∙_}
-use mathlib.Core.List.{List, [], _∷_, _++_, map}
-use native.Mathlib.Omega.{arith}
 use lib.Dec.{ltb}
 use lib.ListN.{length, take, drop}
 use lib.Seq.{length-take-le}
@@ -12,16 +12,15 @@ use borrow.Author.Tests.{eqb-true}
 use Rattle.lists.specs.Choice.{pick}
 use Rattle.lists.specs.Pages.{mem, without, distinct, count}
 use Rattle.lists.proofs.Choice.{tests, split, clash, or-r, or-split}
-use Rattle.lists.proofs.Pages.{distinct-once, mem-here, mem-snoc-split, without-gone, find-some, toEnd-same}
-use Rattle.lists.proofs.Pages.{eraseAll-take}
-use Rattle.paging.specs.Policy.{Rule, Kind, isBundled, kindOf, serve, kinds, bundleCount}
+use Rattle.lists.proofs.Pages.{distinct-once, mem-here, mem-snoc-split, without-gone, find-some, toEnd-same, eraseAll-take}
 use Rattle.paging.specs.Lru.{lruRule}
 use Rattle.paging.specs.Min.{minRule, bestCount}
+use Rattle.paging.specs.Policy.{Rule, Kind, isBundled, kindOf, serve, kinds, bundleCount}
 use Rattle.theory.specs.Factor.{ceilDiv, Policy, policyKinds, Step, Protects}
 use Rattle.theory.proofs.Bundles.{not-absent, absent-after, by-kind}
+use Rattle.theory.proofs.Factor.{bundles-within-factor}
 use Rattle.theory.proofs.Orders.{minRule-is-farthest}
 use Rattle.theory.proofs.Phases.{ceilDiv-covers}
-use Rattle.theory.proofs.Factor.{bundles-within-factor}
 use Rattle.theory.proofs.Trailing.{Trailing, trailing-without, trailing-drop, trailing-snoc, trailing-take, take-held}
 
 -- least recent use, with the pages requested since MIN's last bundle

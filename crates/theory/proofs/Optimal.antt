@@ -2,22 +2,20 @@
 -- along the trace: m ≤ d, and for every T, far T M + a m ≤ far T D + a d, where M is the rule's buffer with m bundles so far, D that of the
 -- schedule with cost d, and far T counts the pages that are not among the next T requests.
 use Prim.Native.Nat.{ℕ, suc, _+_, _*_, _≤_, _<_}
-use mathlib.Core.Bool.{true, false, not}
-use mathlib.Core.Path.{_≡_, refl, _∙_}
-use mathlib.Core.List.{List, [], _∷_, _++_}
 use native.Mathlib.Nat.{add-zero, mul-suc, mul-add, mul-one, mul-le-mul-left}
 use native.Mathlib.Omega.{arith}
+use mathlib.Core.Bool.{true, false, not}
+use mathlib.Core.List.{List, [], _∷_, _++_}
+use mathlib.Core.Path.{_≡_, refl, _∙_}
 use lib.Dec.{eqb, ltb}
 use lib.ListN.{length, take}
 use borrow.Author.Tests.{leb-true, ltb-false, not-true}
 use Rattle.lists.specs.Choice.{_and_}
 use Rattle.lists.specs.Pages.{mem, without, toEnd, eraseAll, bit, count}
-use Rattle.lists.proofs.Choice.{tests, cases, split, clash, and-l, and-r, and-i, or-r, or-none, or-none-l, or-none-r, bit-true, bit-false}
-use Rattle.lists.proofs.Choice.{eqb-self, eqb-sym, same-test, not-i}
-use Rattle.lists.proofs.Pages.{count-append, count-snoc, count-length, count-ext, count-by, count-some, count-all, count-none}
-use Rattle.lists.proofs.Pages.{count-without, without-absent, count-eraseAll-le}
-use Rattle.paging.specs.Schedule.{Turn, bundleLegal, bundlesLegal, afterBundles, withPage, afterTurn, turnLegal, legal, cost}
+use Rattle.lists.proofs.Choice.{tests, cases, split, clash, and-l, and-r, and-i, or-r, or-none, or-none-l, or-none-r, bit-true, bit-false, eqb-self, eqb-sym, same-test, not-i}
+use Rattle.lists.proofs.Pages.{count-append, count-snoc, count-length, count-ext, count-by, count-some, count-all, count-none, count-without, without-absent, count-eraseAll-le}
 use Rattle.paging.specs.Policy.{Rule, isBundled, kindOf, serve, kinds}
+use Rattle.paging.specs.Schedule.{Turn, bundleLegal, bundlesLegal, afterBundles, withPage, afterTurn, turnLegal, legal, cost}
 use Rattle.theory.specs.Farthest.{Farthest}
 use Rattle.theory.proofs.Bundles.{count-taken, taken-held, not-absent, absent-after, farthest-cut}
 

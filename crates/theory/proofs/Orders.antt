@@ -1,11 +1,11 @@
 -- Rules that take farthest pages: the first a in an order "farther, then by a rank" do, for every rank. Document 01's order, in which the
 -- lower page number goes first among pages that are never requested again, is one of them.
 use Prim.Native.Nat.{ℕ, _+_, _≤_, _<_}
+use native.Mathlib.Omega.{arith}
 use mathlib.Core.Bool.{Bool, true, false}
+use mathlib.Core.List.{List}
 use mathlib.Core.Logic.{_⊎_, inl, inr}
 use mathlib.Core.Path.{_≡_, sym, ap, _∙_}
-use mathlib.Core.List.{List}
-use native.Mathlib.Omega.{arith}
 use lib.Dec.{eqb, ltb}
 use lib.ListN.{take, drop, take-append-drop}
 use lib.Seq.{length-take-le}
@@ -16,8 +16,8 @@ use Rattle.lists.specs.Sorting.{sortBy}
 use Rattle.lists.proofs.Choice.{tests, cases, split, clash, and-l, and-r, and-i, or-l, or-r, or-split, eqb-self}
 use Rattle.lists.proofs.Pages.{count-append, count-some, mem-of-count}
 use Rattle.lists.proofs.Sorting.{Order, count-sort, length-sort, sorted-sort, take-before}
-use Rattle.paging.specs.Schedule.{heldInTurn}
 use Rattle.paging.specs.Min.{nextUse, farther, minRule}
+use Rattle.paging.specs.Schedule.{heldInTurn}
 use Rattle.theory.specs.Farthest.{Farthest}
 use Rattle.theory.proofs.Bundles.{count-taken, counted-held}
 

@@ -2,21 +2,19 @@
 -- the bundles of the policy and of the rule so far, and Q the factor, one of two phases holds: the policy holds pages of R only and e ≤ Q E;
 -- or, for some x, e ≤ Q (E - 1) + x, and a x plus the pages held is at most k plus the protected pages.
 use Prim.Native.Nat.{ℕ, suc, _+_, _*_, _-_, _≤_, _<_}
-use mathlib.Core.Bool.{Bool, true, false}
-use mathlib.Core.Logic.{_⊎_, inl, inr}
-use mathlib.Core.Path.{_≡_, refl, sym, _∙_}
-use mathlib.Core.List.{List, [], _∷_, _++_}
 use native.Mathlib.Nat.{mul-suc, mul-add, mul-one, mul-zero, mul-le-mul-left, div-add-mod, mod-lt}
 use native.Mathlib.Omega.{arith}
+use mathlib.Core.Bool.{Bool, true, false}
+use mathlib.Core.List.{List, [], _∷_, _++_}
+use mathlib.Core.Logic.{_⊎_, inl, inr}
+use mathlib.Core.Path.{_≡_, refl, sym, _∙_}
 use lib.Dec.{eqb, leb, ltb}
 use lib.ListN.{length, length-append}
 use borrow.Author.Tests.{eqb-true}
 use Rattle.lists.specs.Choice.{_or_}
 use Rattle.lists.specs.Pages.{mem, eraseAll, count}
 use Rattle.lists.proofs.Choice.{tests, cases, split, clash, or-l, or-r, or-split, bit-true, eqb-self}
-use Rattle.lists.proofs.Pages.{Same, once-snoc, mem-same, length-same, mem-here}
-use Rattle.lists.proofs.Pages.{mem-snoc-split, count-snoc, count-length, count-mono, count-members, count-none}
-use Rattle.lists.proofs.Pages.{count-all, count-incl}
+use Rattle.lists.proofs.Pages.{Same, once-snoc, mem-same, length-same, mem-here, mem-snoc-split, count-snoc, count-length, count-mono, count-members, count-none, count-all, count-incl}
 use Rattle.theory.specs.Factor.{ceilDiv, Policy, Step}
 use Rattle.theory.proofs.Bundles.{count-taken, length-taken, Fits}
 

@@ -1,11 +1,11 @@
 -- Possible sets are exact (source document 001, Lemma 1): a set is possible by the layers exactly if MIN can come to hold just that set. To
 -- show that it can, the set itself follows the trace.
 use Prim.Native.Nat.{ℕ, zero, suc, _≤_}
+use native.Mathlib.Omega.{arith}
 use mathlib.Core.Bool.{Bool, true, not}
+use mathlib.Core.List.{List, []}
 use mathlib.Core.Logic.{_↔_}
 use mathlib.Core.Path.{_≡_, refl, sym, _∙_}
-use mathlib.Core.List.{List, []}
-use native.Mathlib.Omega.{arith}
 use lib.Dec.{leb}
 use lib.ListN.{length}
 use lib.Seq.{take-length}
@@ -13,16 +13,15 @@ use borrow.Author.Tests.{eqb-true, leb-true, leb-false, le-leb, eq-eqb, not-fals
 use Rattle.lists.specs.Choice.{_and_}
 use Rattle.lists.specs.Pages.{mem, distinct, count}
 use Rattle.lists.proofs.Choice.{tests, cases, clash, and-l, and-r, and-i, same-test, not-i}
-use Rattle.lists.proofs.Pages.{Same, Once, distinct-once, count-incl, count-by, count-zero, count-length, count-not, count-all}
-use Rattle.lists.proofs.Pages.{same-of-members, length-same}
-use Rattle.paging.specs.Policy.{Rule, holds}
-use Rattle.paging.specs.Min.{minRule}
+use Rattle.lists.proofs.Pages.{Same, Once, distinct-once, count-incl, count-by, count-zero, count-length, count-not, count-all, same-of-members, length-same}
 use Rattle.paging.specs.Layers.{Layers, noLayers, layersAfter, upTo, holdsUpTo, possible}
+use Rattle.paging.specs.Min.{minRule}
+use Rattle.paging.specs.Policy.{Rule, holds}
 use Rattle.theory.specs.Farthest.{Farthest}
 use Rattle.theory.specs.Possible.{HoldsJust, CanHold}
-use Rattle.theory.proofs.Orders.{minRule-is-farthest}
 use Rattle.theory.proofs.LayerSteps.{Cut, Agree}
 use Rattle.theory.proofs.Layers.{layers-agree-with-min}
+use Rattle.theory.proofs.Orders.{minRule-is-farthest}
 
 -- the rule at each layer
 

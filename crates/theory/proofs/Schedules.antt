@@ -1,11 +1,11 @@
 -- Schedules entry by entry and request by request: their costs agree, and the bundles of a rule that takes farthest pages, as EVs, are a
 -- legal schedule of the trace.
 use Prim.Native.Nat.{ℕ, zero, suc, _+_, _≤_, _<_}
-use mathlib.Core.Bool.{true, false}
-use mathlib.Core.Path.{_≡_, refl, ap, subst, _∙_}
-use mathlib.Core.List.{List, [], _∷_, _++_, append-nil}
 use native.Mathlib.Nat.{zero-add}
 use native.Mathlib.Omega.{arith}
+use mathlib.Core.Bool.{true, false}
+use mathlib.Core.List.{List, [], _∷_, _++_, append-nil}
+use mathlib.Core.Path.{_≡_, refl, ap, subst, _∙_}
 use lib.Dec.{eqb}
 use lib.ListN.{length}
 use borrow.Author.Tests.{ltb-true, lt-ltb, le-leb}
@@ -13,9 +13,8 @@ use Rattle.lists.specs.Choice.{pick}
 use Rattle.lists.specs.Pages.{mem, toEnd, eraseAll, bit, count}
 use Rattle.lists.proofs.Choice.{tests, cases, and-l, and-r, and-i, eqb-self}
 use Rattle.lists.proofs.Pages.{Same, Once, count-snoc, mem-same, length-same, without-absent, toEnd-same, once-eraseAll}
-use Rattle.paging.specs.Schedule.{Entry, ev, pf, Turn, heldInTurn, bundlesLegal, afterBundles, fetchesLegal, withPage, afterTurn, turnLegal}
-use Rattle.paging.specs.Schedule.{legal, cost, timeOf, bundlesAt, fetchesAt, turnsFrom, inOrder, within, serves, entriesCost}
 use Rattle.paging.specs.Policy.{Rule, Kind, hit, load, bundled, isBundled, kindOf, serve, kinds, bundles}
+use Rattle.paging.specs.Schedule.{Entry, ev, pf, Turn, heldInTurn, bundlesLegal, afterBundles, fetchesLegal, withPage, afterTurn, turnLegal, legal, cost, timeOf, bundlesAt, fetchesAt, turnsFrom, inOrder, within, serves, entriesCost}
 use Rattle.theory.specs.Farthest.{Farthest}
 use Rattle.theory.proofs.Bundles.{count-taken, counted-held, by-kind, Fits, fits-serve, fits-start, absent-after}
 

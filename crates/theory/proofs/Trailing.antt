@@ -2,15 +2,14 @@
 -- protected pages.
 use Prim.Native.Nat.{ℕ, zero, suc}
 use mathlib.Core.Bool.{Bool, true, false}
-use mathlib.Core.Path.{_≡_, refl}
 use mathlib.Core.List.{List, [], _∷_, _++_}
+use mathlib.Core.Path.{_≡_, refl}
 use lib.Dec.{eqb}
 use lib.ListN.{take, drop}
 use borrow.Author.Tests.{eqb-true}
 use Rattle.lists.specs.Pages.{mem, without}
 use Rattle.lists.proofs.Choice.{cases, split, clash, or-r, or-split, and-i}
-use Rattle.lists.proofs.Pages.{mem-here, mem-there, mem-without, mem-snoc-split}
-use Rattle.lists.proofs.Pages.{erase-first}
+use Rattle.lists.proofs.Pages.{mem-here, mem-there, mem-without, mem-snoc-split, erase-first}
 use Rattle.paging.specs.Schedule.{heldInTurn}
 
 -- behind a page that passes stand only pages that pass

@@ -3,14 +3,14 @@
 -- then, oldest load those loaded since then, marking those marked since then.
 use Prim.Native.Nat.{ℕ, _+_, _-_, _/_, _≤_, _<_}
 use mathlib.Core.Bool.{Bool, true, false}
+use mathlib.Core.List.{List, [], _∷_, _++_}
 use mathlib.Core.Logic.{_⊎_}
 use mathlib.Core.Path.{_≡_}
-use mathlib.Core.List.{List, [], _∷_, _++_}
 use lib.ListN.{length}
 use Rattle.lists.specs.Choice.{pick}
 use Rattle.lists.specs.Pages.{mem, eraseAll, distinct, count}
-use Rattle.paging.specs.Schedule.{heldInTurn}
 use Rattle.paging.specs.Policy.{Kind, kindOf}
+use Rattle.paging.specs.Schedule.{heldInTurn}
 
 -- k/a, rounded up
 abbrev pub ceilDiv : (k a : ℕ) → ℕ

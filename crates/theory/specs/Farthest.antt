@@ -2,13 +2,13 @@
 -- ordered among themselves.
 use Prim.Native.Nat.{ℕ, _≤_}
 use mathlib.Core.Bool.{true}
-use mathlib.Core.Path.{_≡_}
 use mathlib.Core.List.{List}
+use mathlib.Core.Path.{_≡_}
 use lib.ListN.{length}
 use Rattle.lists.specs.Pages.{mem, eraseAll}
-use Rattle.paging.specs.Schedule.{heldInTurn}
-use Rattle.paging.specs.Policy.{Rule}
 use Rattle.paging.specs.Min.{nextUse}
+use Rattle.paging.specs.Policy.{Rule}
+use Rattle.paging.specs.Schedule.{heldInTurn}
 
 -- where at least a pages are held, a bundle has a pages, all held, and no page that stays is next requested later than one that goes
 pub record Farthest (a : ℕ) (rule : Rule) : Type 0 where

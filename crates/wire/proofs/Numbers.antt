@@ -1,12 +1,12 @@
 -- Laws of numbers in bytes: what was written is read, what was read is what stands there, and how stores join.
 use Prim.Native.Nat.{ℕ, zero, suc, _+_, _-_, _*_, _/_, _%_, _<_, _≤_}
-use mathlib.Core.Path.{_≡_, refl, sym, ap, _∙_}
-use mathlib.Core.List.{List, [], _∷_, _++_, append-assoc}
+use native.Mathlib.Nat.{add-zero}
 use native.Mathlib.Numerals.{add-one, add-two, add-three}
-use native.Mathlib.Nat.{add-zero, zero-add}
 use native.Mathlib.Omega.{arith}
-use lib.ListN.{length, getD, take, drop, set, length-append, length-take, length-drop, length-set}
-use lib.Seq.{getD-drop, drop-cons, drop-drop, sets-eq, length-take-le, take-at, drop-at, take-add, drop-append-le, take-append-le, take-suc, take-all}
+use mathlib.Core.List.{List, [], _∷_, _++_, append-assoc}
+use mathlib.Core.Path.{_≡_, refl, sym, ap, _∙_}
+use lib.ListN.{length, getD, take, drop, set, length-append, length-take, length-drop}
+use lib.Seq.{getD-drop, drop-drop, sets-eq, take-at, drop-at, take-add}
 use Rattle.wire.specs.Numbers.{Bytes, bytes16, bytes32, num16, num32, allBytes32, nums32, placed}
 
 -- ---- reading at an offset

@@ -1,11 +1,11 @@
-use mathlib.Core.Path.{_∙_, ap}
-use mir.Syntax.{w64}
-use mir.Facts.{toZ-ofZ}
 use native.Mathlib.Omega.{arith}
+use mathlib.Core.Path.{_∙_, ap}
 use lib.ListN.{length}
-use Rattle.judge.specs.Answer.{answerNumber}
-use Rattle.judge.proofs.SignedLaws.{within-range}
+use mir.Facts.{toZ-ofZ}
+use mir.Syntax.{w64}
 use borrow.Author.Needs.{needs}
+use Rattle.judging.specs.Answer.{answerNumber}
+use Rattle.judge.proofs.SignedLaws.{within-range}
 use Rattle.judge.proofs.judge.Statement.{statement}
 use Rattle.judge.proofs.judge.Tie as tie
 

@@ -1,15 +1,8 @@
 use mathlib.Core.Path.{sym, _∙_}
-use Rattle.layers.proofs.OverLaws.{over-early, serve-ready, over-full, s-small, over-done}
 use borrow.Author.Needs.{needs}
+use Rattle.layers.proofs.OverLaws.{over-early, serve-ready, over-full, s-small, over-done}
 use Rattle.layers.proofs.over_trace.Statement.{statement}
 use Rattle.layers.proofs.over_trace.Tie as tie
-use Rattle.layers.proofs.over_trace.Reads as reads
-use Rattle.layers.proofs.over_trace.Lts as lts
-use Rattle.layers.proofs.questions.singles_at_top.Reads as singles-at-top-reads
-use Rattle.layers.proofs.refused_totals.Reads as refused-totals-reads
-use Rattle.layers.proofs.trace.clear.Reads as clear-reads
-use Rattle.layers.proofs.trace.early_refusal.Reads as early-refusal-reads
-use Rattle.layers.proofs.trace.serve_all.Reads as serve-all-reads
 
 -- src/lib.rt:189:9
 early-refusal-requires : tie.Need-early-refusal-requires

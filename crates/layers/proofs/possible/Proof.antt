@@ -1,19 +1,12 @@
-use mathlib.Core.Path.{sym, _∙_}
 use native.Mathlib.Omega.{arith}
-use Rattle.paging.specs.Table.{numberIn}
-use Rattle.layers.specs.Rows.{rowsOf}
-use Rattle.layers.proofs.Refusing.{state-ready}
-use Rattle.layers.proofs.Asking.{possible-refused, possible-twice, possible-differs, possible-walked, tally-most, s-most}
+use mathlib.Core.Path.{sym, _∙_}
 use borrow.Author.Needs.{needs}
+use Rattle.paging.specs.Rows.{rowsOf}
+use Rattle.paging.specs.Table.{numberIn}
+use Rattle.layers.proofs.Asking.{possible-refused, possible-twice, possible-differs, possible-walked, tally-most, s-most}
+use Rattle.layers.proofs.Refusing.{state-ready}
 use Rattle.layers.proofs.possible.Statement.{statement}
 use Rattle.layers.proofs.possible.Tie as tie
-use Rattle.layers.proofs.possible.Reads as reads
-use Rattle.layers.proofs.possible.Lts as lts
-use Rattle.layers.proofs.formed.wide.Reads as wide-reads
-use Rattle.layers.proofs.questions.first_broken.Reads as first-broken-reads
-use Rattle.layers.proofs.questions.tally_set.Reads as tally-set-reads
-use Rattle.layers.proofs.state_refusal.Reads as state-refusal-reads
-use Rattle.lists.proofs.no_page_twice.Reads as no-page-twice-reads
 
 -- src/lib.rt:155:9
 state-refusal-requires : tie.Need-state-refusal-requires

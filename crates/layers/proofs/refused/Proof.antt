@@ -1,12 +1,8 @@
 use mathlib.Core.Path.{ap}
-use Rattle.layers.specs.declared.LayersRun.{LayersRun}
-use Rattle.layers.specs.declared.LayersReply.{LayersReply}
 use borrow.Author.Needs.{needs}
+use Rattle.layers.specs.declared.LayersRun.{LayersRun}
 use Rattle.layers.proofs.refused.Statement.{statement}
 use Rattle.layers.proofs.refused.Tie as tie
-use Rattle.layers.proofs.refused.Reads as reads
-use Rattle.layers.proofs.refused.Lts as lts
-use Rattle.layers.proofs.LayersRun.empty.Reads as empty-reads
 
 -- src/lib.rt:102:14
 empty-requires : tie.Need-empty-requires

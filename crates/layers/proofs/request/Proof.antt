@@ -1,18 +1,12 @@
-use mathlib.Core.Path.{sym, _∙_, refl}
 use native.Mathlib.Omega.{arith}
+use mathlib.Core.Path.{sym, _∙_, refl}
+use borrow.Author.Needs.{needs}
 use Rattle.lists.proofs.Choice.{bit-le}
 use Rattle.paging.specs.Layers.{isJoin}
-use Rattle.layers.specs.Calls.{ruleOf}
+use Rattle.table.specs.Serving.{ruleOf}
 use Rattle.layers.proofs.Refusing.{state-ready, sound, evictions-low, request-refused, request-state, request-last, request-full, rows-kept, request-served, pages-same, numbers-same}
-use borrow.Author.Needs.{needs}
 use Rattle.layers.proofs.request.Statement.{statement}
 use Rattle.layers.proofs.request.Tie as tie
-use Rattle.layers.proofs.request.Reads as reads
-use Rattle.layers.proofs.request.Lts as lts
-use Rattle.layers.proofs.refused.Reads as refused-reads
-use Rattle.layers.proofs.state_refusal.Reads as state-refusal-reads
-use Rattle.layers.proofs.table.bundles.Reads as bundles-reads
-use Rattle.layers.proofs.table.step.Reads as step-reads
 
 -- src/lib.rt:112:9
 state-refusal-requires : tie.Need-state-refusal-requires

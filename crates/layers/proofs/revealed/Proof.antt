@@ -1,13 +1,9 @@
 use mathlib.Core.Path.{sym, _∙_}
-use Rattle.layers.proofs.Refusing.{state-ready, sound}
-use Rattle.layers.proofs.Asking.{revealed-refused, revealed-told, s-most}
 use borrow.Author.Needs.{needs}
+use Rattle.layers.proofs.Asking.{revealed-refused, revealed-told, s-most}
+use Rattle.layers.proofs.Refusing.{state-ready}
 use Rattle.layers.proofs.revealed.Statement.{statement}
 use Rattle.layers.proofs.revealed.Tie as tie
-use Rattle.layers.proofs.revealed.Reads as reads
-use Rattle.layers.proofs.revealed.Lts as lts
-use Rattle.layers.proofs.questions.singles_at_top.Reads as singles-at-top-reads
-use Rattle.layers.proofs.state_refusal.Reads as state-refusal-reads
 
 -- src/lib.rt:138:9
 state-refusal-requires : tie.Need-state-refusal-requires

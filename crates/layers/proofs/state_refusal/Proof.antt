@@ -1,14 +1,9 @@
 use mathlib.Core.Path.{sym, _∙_}
-use native.Mathlib.Omega.{arith}
-use Rattle.layers.proofs.Refusing.{state-sizes, state-uneven, state-ill, state-pass}
-use Rattle.paging.proofs.Refusals.{sizes-right}
 use borrow.Author.Needs.{needs}
+use Rattle.paging.proofs.Refusals.{sizes-right}
+use Rattle.layers.proofs.Refusing.{state-sizes, state-uneven, state-ill, state-pass}
 use Rattle.layers.proofs.state_refusal.Statement.{statement}
 use Rattle.layers.proofs.state_refusal.Tie as tie
-use Rattle.layers.proofs.state_refusal.Reads as reads
-use Rattle.layers.proofs.state_refusal.Lts as lts
-use Rattle.layers.proofs.formed.well_formed.Reads as well-formed-reads
-use Rattle.paging.proofs.Sizes.refusal.Reads as refusal-reads
 
 -- src/lib.rt:84:9
 refusal-requires : tie.Need-refusal-requires

@@ -3,9 +3,9 @@ use Prim.Native.Nat.{_+_, _≤_, _-_}
 use native.Mathlib.Omega.{arith}
 use mathlib.Core.Path.{_≡_, sym, _∙_}
 use lib.ListN.{length, drop}
+use borrow.Author.Needs.{needs}
 use Rattle.lists.specs.Places.{place}
 use Rattle.lists.proofs.Leaves.{place-here, place-next, place-end}
-use borrow.Author.Needs.{needs}
 use Rattle.lists.proofs.find.Statement.{statement}
 use Rattle.lists.proofs.find.Tie as tie
 

@@ -2,11 +2,11 @@
 use Prim.Native.Nat.{_≤_, _-_}
 use native.Mathlib.Omega.{arith}
 use mathlib.Core.Path.{_≡_, refl, ap, _∙_}
-use lib.ListN.{length, take, getD}
+use lib.ListN.{length, take}
 use lib.Seq.{take-all}
+use borrow.Author.Needs.{needs}
 use Rattle.lists.specs.Pages.{mem}
 use Rattle.lists.proofs.Leaves.{has-turn}
-use borrow.Author.Needs.{needs}
 use Rattle.lists.proofs.has.Statement.{statement}
 use Rattle.lists.proofs.has.Tie as tie
 

@@ -1,13 +1,13 @@
 -- `lists::parts_without` meets its contract: the places passed do not have the page.
 use Prim.Native.Nat.{ℕ, _+_, _-_, _*_, _≤_}
 use native.Mathlib.Omega.{arith}
-use mathlib.Core.Path.{_≡_, sym, ap, _∙_}
 use mathlib.Core.Bool.{false}
+use mathlib.Core.Path.{_≡_, sym, ap, _∙_}
 use lib.ListN.{length, take, drop}
+use borrow.Author.Needs.{needs}
 use Rattle.lists.specs.Pages.{mem}
 use Rattle.lists.specs.Places.{place}
 use Rattle.lists.proofs.Leaves.{part-passed}
-use borrow.Author.Needs.{needs}
 use Rattle.lists.proofs.parts_without.Statement.{statement}
 use Rattle.lists.proofs.parts_without.Tie as tie
 

@@ -1,7 +1,7 @@
 -- `lru::over_trace` meets its contract: refused, zeros; else the counters of the run over the trace.
 use mathlib.Core.Path.{sym, _∙_}
-use Rattle.lru.proofs.Refusals.{trace-ready, totals-refused, totals-served}
 use borrow.Author.Needs.{needs}
+use Rattle.lru.proofs.Refusals.{trace-ready, totals-refused, totals-served}
 use Rattle.lru.proofs.over_trace.Statement.{statement}
 use Rattle.lru.proofs.over_trace.Tie as tie
 

@@ -1,9 +1,9 @@
 -- `lru::refusal` meets its contract: each test is a condition of `requestRefusal`, in its order.
 use native.Mathlib.Omega.{arith}
-use lib.ListN.{length-take}
 use mathlib.Core.Path.{sym, _∙_}
-use Rattle.lru.proofs.Refusals.{number-sizes, number-cache, number-evicted, number-ill, number-last, number-none, ill-count, ill-evictions, ill-loads, ill-twice, well}
+use lib.ListN.{length-take}
 use borrow.Author.Needs.{needs}
+use Rattle.lru.proofs.Refusals.{number-sizes, number-cache, number-evicted, number-ill, number-last, number-none, ill-count, ill-evictions, ill-loads, ill-twice, well}
 use Rattle.lru.proofs.refusal.Statement.{statement}
 use Rattle.lru.proofs.refusal.Tie as tie
 

@@ -1,7 +1,7 @@
 -- `lru::request` meets its contract: refused, nothing has changed; accepted, the state is ready and the step serves it.
 use mathlib.Core.Path.{sym, _∙_}
-use Rattle.lru.proofs.Refusals.{ready-of, answer-refused, answer-accepted}
 use borrow.Author.Needs.{needs}
+use Rattle.lru.proofs.Refusals.{ready-of, answer-refused, answer-accepted}
 use Rattle.lru.proofs.request.Statement.{statement}
 use Rattle.lru.proofs.request.Tie as tie
 

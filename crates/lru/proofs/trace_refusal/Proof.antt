@@ -1,6 +1,6 @@
 -- `lru::trace_refusal` meets its contract: each test is a condition of `traceRefusal`, in its order.
-use Rattle.lru.proofs.Refusals.{trace-sizes, trace-long, trace-none}
 use borrow.Author.Needs.{needs}
+use Rattle.lru.proofs.Refusals.{trace-sizes, trace-long, trace-none}
 use Rattle.lru.proofs.trace_refusal.Statement.{statement}
 use Rattle.lru.proofs.trace_refusal.Tie as tie
 

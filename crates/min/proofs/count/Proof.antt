@@ -1,6 +1,6 @@
-use mathlib.Core.Path.{_≡_, sym, _∙_}
-use Rattle.min.proofs.Refused.{accepted, counts-refused}
+use mathlib.Core.Path.{sym, _∙_}
 use borrow.Author.Needs.{needs}
+use Rattle.min.proofs.Refused.{accepted, counts-refused}
 use Rattle.min.proofs.count.Statement.{statement}
 use Rattle.min.proofs.count.Tie as tie
 

@@ -1,7 +1,5 @@
-use mathlib.Core.Path.{_≡_}
-use Rattle.lists.proofs.Choice.{cases}
-use Rattle.min.proofs.Refused.{refused-sizes, refused-long, not-refused}
 use borrow.Author.Needs.{needs}
+use Rattle.min.proofs.Refused.{refused-sizes, refused-long, not-refused}
 use Rattle.min.proofs.refusal.Statement.{statement}
 use Rattle.min.proofs.refusal.Tie as tie
 

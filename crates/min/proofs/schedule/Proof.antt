@@ -1,6 +1,6 @@
-use mathlib.Core.Path.{_≡_, sym, _∙_}
-use Rattle.min.proofs.Refused.{accepted, schedule-refused, schedule-passes}
+use mathlib.Core.Path.{sym, _∙_}
 use borrow.Author.Needs.{needs}
+use Rattle.min.proofs.Refused.{accepted, schedule-refused, schedule-passes}
 use Rattle.min.proofs.schedule.Statement.{statement}
 use Rattle.min.proofs.schedule.Tie as tie
 

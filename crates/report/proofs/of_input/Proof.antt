@@ -1,16 +1,11 @@
-use mathlib.Core.Path.{sym}
 use native.Mathlib.Omega.{arith}
+use mathlib.Core.Path.{sym}
 use lib.ListN.{length-take}
 use lib.Seq.{length-take-le}
-use Rattle.report.proofs.FiguresLaws.{input-refused, input-figures}
 use borrow.Author.Needs.{needs}
+use Rattle.report.proofs.FiguresLaws.{input-refused, input-figures}
 use Rattle.report.proofs.of_input.Statement.{statement}
 use Rattle.report.proofs.of_input.Tie as tie
-use Rattle.report.proofs.of_input.Reads as reads
-use Rattle.report.proofs.of_input.Lts as lts
-use Rattle.report.proofs.Report.refused.Reads as refused-reads
-use Rattle.report.proofs.figures.of.Reads as of-reads
-use Rattle.report.proofs.reading.trace.Reads as trace-reads
 
 -- src/lib.rt:73:38
 slice-aggregate-trace : tie.Need-slice-aggregate-trace

@@ -1,7 +1,7 @@
 -- `wire::read16` meets its contract: the sum of the two bytes that it read is the number at the offset.
 use native.Mathlib.Omega.{arith}
-use Rattle.wire.proofs.Numbers.{num16-at}
 use borrow.Author.Needs.{needs}
+use Rattle.wire.proofs.Numbers.{num16-at}
 use Rattle.wire.proofs.read16.Statement.{statement}
 use Rattle.wire.proofs.read16.Tie as tie
 

@@ -1,7 +1,7 @@
 -- `wire::read32` meets its contract: the sum of the four bytes that it read is the number at the offset.
 use native.Mathlib.Omega.{arith}
-use Rattle.wire.proofs.Numbers.{num32-at}
 use borrow.Author.Needs.{needs}
+use Rattle.wire.proofs.Numbers.{num32-at}
 use Rattle.wire.proofs.read32.Statement.{statement}
 use Rattle.wire.proofs.read32.Tie as tie
 

@@ -1,8 +1,8 @@
 -- `wire::write16` meets its contract: its two stores put the number's bytes at the offset.
 use native.Mathlib.Omega.{arith}
 use lib.ListN.{length-set}
-use Rattle.wire.proofs.Numbers.{stored16}
 use borrow.Author.Needs.{needs}
+use Rattle.wire.proofs.Numbers.{stored16}
 use Rattle.wire.proofs.write16.Statement.{statement}
 use Rattle.wire.proofs.write16.Tie as tie
 

@@ -1,8 +1,8 @@
 -- `wire::write32` meets its contract: its four stores put the number's bytes at the offset.
 use native.Mathlib.Omega.{arith}
 use lib.ListN.{length-set}
-use Rattle.wire.proofs.Numbers.{stored32}
 use borrow.Author.Needs.{needs}
+use Rattle.wire.proofs.Numbers.{stored32}
 use Rattle.wire.proofs.write32.Statement.{statement}
 use Rattle.wire.proofs.write32.Tie as tie
 

@@ -1,9 +1,9 @@
 use mathlib.Core.Path.{_∙_, ap}
-use mir.Syntax.{w64}
 use mir.Facts.{toZ-ofZ}
+use mir.Syntax.{w64}
+use borrow.Author.Needs.{needs}
 use Rattle.layers.specs.declared.LayersReply.{LayersReply}
 use Rattle.exports.specs.Signed.{signed}
-use borrow.Author.Needs.{needs}
 use Rattle.exports.proofs.requests.layers_request.Statement.{statement}
 use Rattle.exports.proofs.requests.layers_request.Tie as tie
 

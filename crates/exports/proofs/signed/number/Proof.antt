@@ -1,6 +1,6 @@
 use native.Mathlib.Omega.{arith}
-use Rattle.exports.proofs.SignedLaws.{figure-fits, figure-sent, refusal-fits, refusal-sent}
 use borrow.Author.Needs.{needs}
+use Rattle.exports.proofs.SignedLaws.{figure-fits, figure-sent, refusal-fits, refusal-sent}
 use Rattle.exports.proofs.signed.number.Statement.{statement}
 use Rattle.exports.proofs.signed.number.Tie as tie
 

@@ -1,9 +1,9 @@
 use mathlib.Core.Path.{_∙_, ap}
-use mir.Syntax.{w64}
 use mir.Facts.{toZ-ofZ}
+use mir.Syntax.{w64}
+use borrow.Author.Needs.{needs}
 use Rattle.lru.specs.declared.Totals.{Totals}
 use Rattle.exports.specs.Signed.{signed}
-use borrow.Author.Needs.{needs}
 use Rattle.exports.proofs.traces.lru_bundles.Statement.{statement}
 use Rattle.exports.proofs.traces.lru_bundles.Tie as tie
 

@@ -1,9 +1,9 @@
 use mathlib.Core.Path.{_∙_, ap}
-use mir.Syntax.{w64}
 use mir.Facts.{toZ-ofZ}
+use mir.Syntax.{w64}
+use borrow.Author.Needs.{needs}
 use Rattle.min.specs.declared.Counts.{Counts}
 use Rattle.exports.specs.Signed.{signed}
-use borrow.Author.Needs.{needs}
 use Rattle.exports.proofs.traces.min_loads.Statement.{statement}
 use Rattle.exports.proofs.traces.min_loads.Tie as tie
 

@@ -1,11 +1,11 @@
 use native.Mathlib.Omega.{arith}
-use Rattle.exports.proofs.LengthLaws.{length-fits}
 use mathlib.Core.Path.{_∙_, ap}
-use mir.Syntax.{w64}
 use mir.Facts.{toZ-ofZ}
+use mir.Syntax.{w64}
+use borrow.Author.Needs.{needs}
 use Rattle.min.specs.declared.Scheduled.{Scheduled}
 use Rattle.exports.specs.Signed.{signed}
-use borrow.Author.Needs.{needs}
+use Rattle.exports.proofs.LengthLaws.{length-fits}
 use Rattle.exports.proofs.traces.min_schedule.Statement.{statement}
 use Rattle.exports.proofs.traces.min_schedule.Tie as tie
 

@@ -1,7 +1,7 @@
 use native.Mathlib.Omega.{arith}
 use mathlib.Core.Path.{sym, _∙_}
-use Rattle.judge.proofs.BufferLaws.{add-present, add-full, add-absent}
 use borrow.Author.Needs.{needs}
+use Rattle.judge.proofs.BufferLaws.{add-present, add-full, add-absent}
 use Rattle.judge.proofs.buffer.add.Statement.{statement}
 use Rattle.judge.proofs.buffer.add.Tie as tie
 

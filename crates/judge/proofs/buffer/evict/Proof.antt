@@ -1,12 +1,12 @@
 use Prim.Native.Nat.{_+_, _*_, _-_, _≤_}
+use native.Mathlib.Omega.{arith}
 use mathlib.Core.Path.{_≡_, refl, sym, _∙_}
 use lib.ListN.{length, take, drop}
-use native.Mathlib.Omega.{arith}
-use Rattle.lists.specs.Pages.{eraseAll}
-use Rattle.wire.specs.Numbers.{nums32}
-use Rattle.paging.specs.Schedule.{heldInTurn}
-use Rattle.judge.proofs.BufferLaws.{next-held, next-erased, next-missing, evicted, missing}
 use borrow.Author.Needs.{needs}
+use Rattle.lists.specs.Pages.{eraseAll}
+use Rattle.paging.specs.Schedule.{heldInTurn}
+use Rattle.wire.specs.Numbers.{nums32}
+use Rattle.judge.proofs.BufferLaws.{next-held, next-erased, next-missing, evicted, missing}
 use Rattle.judge.proofs.buffer.evict.Statement.{statement}
 use Rattle.judge.proofs.buffer.evict.Tie as tie
 

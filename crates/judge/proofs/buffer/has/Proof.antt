@@ -1,6 +1,6 @@
-use lib.Seq.{length-take-le}
-use mathlib.Core.Path.{sym}
 use native.Mathlib.Omega.{arith}
+use mathlib.Core.Path.{sym}
+use lib.Seq.{length-take-le}
 use borrow.Author.Needs.{needs}
 use Rattle.judge.proofs.buffer.has.Statement.{statement}
 use Rattle.judge.proofs.buffer.has.Tie as tie

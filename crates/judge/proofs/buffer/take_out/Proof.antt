@@ -1,8 +1,8 @@
-use lib.Seq.{length-take-le}
-use mathlib.Core.Path.{sym, refl}
 use native.Mathlib.Omega.{arith}
-use Rattle.judge.proofs.BufferLaws.{not-there, taken-out}
+use mathlib.Core.Path.{sym, refl}
+use lib.Seq.{length-take-le}
 use borrow.Author.Needs.{needs}
+use Rattle.judge.proofs.BufferLaws.{not-there, taken-out}
 use Rattle.judge.proofs.buffer.take_out.Statement.{statement}
 use Rattle.judge.proofs.buffer.take_out.Tie as tie
 

@@ -1,8 +1,7 @@
-use Prim.Native.Nat.{_+_, _≤_}
-use mathlib.Core.Path.{_≡_, refl, sym, _∙_}
 use native.Mathlib.Omega.{arith}
-use Rattle.judge.proofs.ClosingLaws.{Closes, closes-done, closes-over, closes-next}
+use mathlib.Core.Path.{refl, _∙_}
 use borrow.Author.Needs.{needs}
+use Rattle.judge.proofs.ClosingLaws.{Closes, closes-done, closes-over, closes-next}
 use Rattle.judge.proofs.closing.close.Statement.{statement}
 use Rattle.judge.proofs.closing.close.Tie as tie
 

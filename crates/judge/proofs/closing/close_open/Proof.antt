@@ -1,7 +1,6 @@
-use mathlib.Core.Path.{sym}
 use native.Mathlib.Omega.{arith}
-use Rattle.judge.proofs.ClosingLaws.{open-over}
 use borrow.Author.Needs.{needs}
+use Rattle.judge.proofs.ClosingLaws.{open-over}
 use Rattle.judge.proofs.closing.close_open.Statement.{statement}
 use Rattle.judge.proofs.closing.close_open.Tie as tie
 

@@ -1,6 +1,5 @@
-use native.Mathlib.Omega.{arith}
-use Rattle.judge.proofs.ReadLaws.{at-request, no-sizes, no-end, no-refusal}
 use borrow.Author.Needs.{needs}
+use Rattle.judge.proofs.ReadLaws.{at-request, no-sizes, no-end, no-refusal}
 use Rattle.judge.proofs.closing.request_at.Statement.{statement}
 use Rattle.judge.proofs.closing.request_at.Tie as tie
 

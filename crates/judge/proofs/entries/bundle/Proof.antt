@@ -1,11 +1,11 @@
-use mathlib.Core.Path.{refl, sym, _∙_}
 use native.Mathlib.Omega.{arith}
+use mathlib.Core.Path.{sym, _∙_}
 use lib.ListN.{drop}
-use Rattle.wire.specs.Numbers.{nums32}
+use borrow.Author.Needs.{needs}
 use Rattle.paging.specs.Schedule.{ev}
+use Rattle.wire.specs.Numbers.{nums32}
 use Rattle.judge.specs.Places.{standing}
 use Rattle.judge.proofs.EntryLaws.{acts, halts, lands, ev-late, ev-missing, ev-done, ev-sound}
-use borrow.Author.Needs.{needs}
 use Rattle.judge.proofs.entries.bundle.Statement.{statement}
 use Rattle.judge.proofs.entries.bundle.Tie as tie
 

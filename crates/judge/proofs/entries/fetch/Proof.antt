@@ -1,9 +1,9 @@
-use mathlib.Core.Path.{refl, sym, _∙_, ap}
 use native.Mathlib.Omega.{arith}
+use mathlib.Core.Path.{sym, _∙_}
+use borrow.Author.Needs.{needs}
 use Rattle.paging.specs.Schedule.{pf}
 use Rattle.judge.specs.Places.{standing}
 use Rattle.judge.proofs.EntryLaws.{acts, halts, lands, pf-held, pf-fetched, pf-done, pf-sound}
-use borrow.Author.Needs.{needs}
 use Rattle.judge.proofs.entries.fetch.Statement.{statement}
 use Rattle.judge.proofs.entries.fetch.Tie as tie
 

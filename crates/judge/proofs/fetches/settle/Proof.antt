@@ -1,11 +1,11 @@
 use Prim.Native.Nat.{_+_, _*_}
-use mathlib.Core.Path.{_≡_, refl, sym, _∙_}
-use mathlib.Core.List.{_++_}
-use lib.ListN.{length, take, length-set}
 use native.Mathlib.Omega.{arith}
+use mathlib.Core.List.{_++_}
+use mathlib.Core.Path.{_≡_, refl, _∙_}
+use lib.ListN.{length, take, length-set}
+use borrow.Author.Needs.{needs}
 use Rattle.judge.specs.Fetches.{fetchedPages}
 use Rattle.judge.proofs.FetchLaws.{settled-next, settled-all}
-use borrow.Author.Needs.{needs}
 use Rattle.judge.proofs.fetches.settle.Statement.{statement}
 use Rattle.judge.proofs.fetches.settle.Tie as tie
 

@@ -1,7 +1,6 @@
-use mathlib.Core.Path.{refl, sym, _∙_}
 use native.Mathlib.Omega.{arith}
-use Rattle.judge.proofs.FileLaws.{ka-fact, k-small, barred-trace, whole-trace, trace-judged, trace-refused, trace-end, trace-request}
 use borrow.Author.Needs.{needs}
+use Rattle.judge.proofs.FileLaws.{ka-fact, k-small, barred-trace, whole-trace, trace-judged, trace-refused, trace-end, trace-request}
 use Rattle.judge.proofs.files.answer.Statement.{statement}
 use Rattle.judge.proofs.files.answer.Tie as tie
 

@@ -1,8 +1,8 @@
 use Prim.Native.Nat.{_-_}
 use native.Mathlib.Omega.{arith}
 use lib.ListN.{length}
-use Rattle.judge.proofs.FileLaws.{Counting, counting-first, request-fact, too-long, counting-next, counted-all, counted-damage, counted-sizes}
 use borrow.Author.Needs.{needs}
+use Rattle.judge.proofs.FileLaws.{Counting, counting-first, request-fact, too-long, counting-next, counted-all, counted-damage, counted-sizes}
 use Rattle.judge.proofs.files.count.Statement.{statement}
 use Rattle.judge.proofs.files.count.Tie as tie
 

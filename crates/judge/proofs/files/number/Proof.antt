@@ -1,6 +1,6 @@
 use native.Mathlib.Omega.{arith}
-use Rattle.judge.proofs.SignedLaws.{cost-fits, cost-sent, refusal-fits, refusal-sent}
 use borrow.Author.Needs.{needs}
+use Rattle.judge.proofs.SignedLaws.{cost-fits, cost-sent, refusal-fits, refusal-sent}
 use Rattle.judge.proofs.files.number.Statement.{statement}
 use Rattle.judge.proofs.files.number.Tie as tie
 

@@ -1,9 +1,7 @@
-use mathlib.Core.Path.{refl, sym, _∙_}
-use mathlib.Core.List.{[]}
 use native.Mathlib.Omega.{arith}
-use lib.ListN.{length-replicate}
-use Rattle.judge.proofs.FileLaws.{other-k, other-a, first-sound, first-answer, schedule-refused, schedule-end, schedule-bundle, schedule-fetch}
+use mathlib.Core.List.{[]}
 use borrow.Author.Needs.{needs}
+use Rattle.judge.proofs.FileLaws.{other-k, other-a, first-sound, first-answer, schedule-refused, schedule-end, schedule-bundle, schedule-fetch}
 use Rattle.judge.proofs.files.schedule_answer.Statement.{statement}
 use Rattle.judge.proofs.files.schedule_answer.Tie as tie
 

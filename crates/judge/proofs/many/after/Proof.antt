@@ -1,6 +1,5 @@
-use native.Mathlib.Omega.{arith}
-use Rattle.judge.proofs.ManyLaws.{on-ready, on-reads, stop-reads, nothing-read}
 use borrow.Author.Needs.{needs}
+use Rattle.judge.proofs.ManyLaws.{on-ready, on-reads, stop-reads, nothing-read}
 use Rattle.judge.proofs.many.after.Statement.{statement}
 use Rattle.judge.proofs.many.after.Tie as tie
 

@@ -1,8 +1,8 @@
-use lib.ListN.{take}
 use mathlib.Core.Path.{sym, _∙_}
+use lib.ListN.{take}
+use borrow.Author.Needs.{needs}
 use Rattle.judge.specs.Fetches.{fetchedPages}
 use Rattle.judge.proofs.ManyLaws.{known-held, known-fetched, known-not}
-use borrow.Author.Needs.{needs}
 use Rattle.judge.proofs.many.known.Statement.{statement}
 use Rattle.judge.proofs.many.known.Tie as tie
 

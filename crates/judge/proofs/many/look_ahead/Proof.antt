@@ -1,6 +1,5 @@
-use native.Mathlib.Omega.{arith}
-use Rattle.judge.proofs.ManyLaws.{ahead-is}
 use borrow.Author.Needs.{needs}
+use Rattle.judge.proofs.ManyLaws.{ahead-is}
 use Rattle.judge.proofs.many.look_ahead.Statement.{statement}
 use Rattle.judge.proofs.many.look_ahead.Tie as tie
 

@@ -1,12 +1,12 @@
-use Prim.Native.Nat.{_+_, _-_, _≤_}
-use lib.ListN.{length}
-use mathlib.Core.Path.{_≡_, sym, ap, _∙_}
+use Prim.Native.Nat.{_-_, _≤_}
 use native.Mathlib.Omega.{arith}
-use Rattle.judge.specs.Fetches.{fetchedPages}
-use Rattle.judge.specs.Marks.{words, AllMarked}
-use Rattle.judge.proofs.MarkLaws.{all-none}
-use Rattle.judge.proofs.ManyLaws.{mark-next, mark-last}
+use mathlib.Core.Path.{_≡_, sym, _∙_}
+use lib.ListN.{length}
 use borrow.Author.Needs.{needs}
+use Rattle.repeats.specs.Bits.{words, AllMarked}
+use Rattle.repeats.proofs.BitLaws.{all-none}
+use Rattle.judge.specs.Fetches.{fetchedPages}
+use Rattle.judge.proofs.ManyLaws.{mark-next, mark-last}
 use Rattle.judge.proofs.many.mark_all.Statement.{statement}
 use Rattle.judge.proofs.many.mark_all.Tie as tie
 

@@ -1,10 +1,9 @@
-use Prim.Native.Nat.{_+_, _*_, _-_, _≤_}
-use lib.ListN.{length}
-use mathlib.Core.Path.{_≡_, refl, sym, ap, _∙_}
+use Prim.Native.Nat.{_+_, _*_, _-_}
 use native.Mathlib.Omega.{arith}
-use Rattle.judge.specs.Many.{AheadIs}
-use Rattle.judge.proofs.ManyLaws.{Reads, reads-none, reads-end, reads-inside, reads-stop, reads-next, ahead-page}
+use mathlib.Core.Path.{sym, _∙_}
+use lib.ListN.{length}
 use borrow.Author.Needs.{needs}
+use Rattle.judge.proofs.ManyLaws.{Reads, reads-none, reads-end, reads-inside, reads-stop, reads-next, ahead-page}
 use Rattle.judge.proofs.many.read_on.Statement.{statement}
 use Rattle.judge.proofs.many.read_on.Tie as tie
 

@@ -1,6 +1,6 @@
 use native.Mathlib.Omega.{arith}
-use Rattle.judge.proofs.RunLaws.{few, none-left, left-over, left-closed}
 use borrow.Author.Needs.{needs}
+use Rattle.judge.proofs.RunLaws.{few, none-left, left-over, left-closed}
 use Rattle.judge.proofs.run.finish.Statement.{statement}
 use Rattle.judge.proofs.run.finish.Tie as tie
 

@@ -1,8 +1,7 @@
-use Rattle.judge.proofs.ManyLaws.{sound-ready}
-use mathlib.Core.Path.{refl, sym, ap, _∙_}
 use native.Mathlib.Omega.{arith}
-use Rattle.judge.proofs.RunLaws.{ev-fact, ev-turn, pf-fact, pfs-turn, end-turn, refused-turn, sizes-turn}
 use borrow.Author.Needs.{needs}
+use Rattle.judge.proofs.ManyLaws.{sound-ready}
+use Rattle.judge.proofs.RunLaws.{ev-fact, ev-turn, pf-fact, pfs-turn, end-turn, refused-turn, sizes-turn}
 use Rattle.judge.proofs.run.next_record.Statement.{statement}
 use Rattle.judge.proofs.run.next_record.Tie as tie
 

@@ -1,11 +1,11 @@
 use Prim.Native.Nat.{_+_, _*_, _-_}
-use mathlib.Core.Path.{_≡_, refl, sym, _∙_}
 use native.Mathlib.Omega.{arith}
+use mathlib.Core.Path.{_≡_, refl, _∙_}
 use lib.ListN.{length}
+use borrow.Author.Needs.{needs}
 use Rattle.judge.specs.Places.{Sound}
 use Rattle.judge.specs.Verdicts.{placeAnswer}
 use Rattle.judge.proofs.RunLaws.{run-again, run-done}
-use borrow.Author.Needs.{needs}
 use Rattle.judge.proofs.run.run.Statement.{statement}
 use Rattle.judge.proofs.run.run.Tie as tie
 

@@ -1,17 +1,13 @@
 use Prim.Native.Nat.{_≤_, _-_}
-use mathlib.Core.Path.{_≡_}
 use native.Mathlib.Omega.{arith}
+use mathlib.Core.Path.{_≡_}
 use lib.ListN.{length, drop, getD}
-use Rattle.layers.specs.Rows.{rowAt, rowsOf}
+use borrow.Author.Needs.{needs}
+use Rattle.paging.specs.Rows.{rowAt, rowsOf}
 use Rattle.layers.specs.Formed.{ordered, orderedBehind}
 use Rattle.layers.proofs.Reading.{order-none, order-first, order-first-bad, order-next, order-bad, order-end}
-use borrow.Author.Needs.{needs}
 use Rattle.layers.proofs.formed.in_order.Statement.{statement}
 use Rattle.layers.proofs.formed.in_order.Tie as tie
-use Rattle.layers.proofs.formed.in_order.Reads as reads
-use Rattle.layers.proofs.formed.in_order.Lts as lts
-use Rattle.layers.proofs.formed.may_follow.Reads as may-follow-reads
-use Rattle.layers.proofs.formed.used_or_zero.Reads as used-or-zero-reads
 
 abbrev Inv-loop : tie.InvT-loop
 Inv-loop pages numbers i₀ i =

@@ -1,14 +1,8 @@
 use native.Mathlib.Omega.{arith}
-use Rattle.layers.proofs.WellFormed.{sized-first, sized-second, sized-third, sized-last}
 use borrow.Author.Needs.{needs}
+use Rattle.layers.proofs.WellFormed.{sized-first, sized-second, sized-third, sized-last}
 use Rattle.layers.proofs.formed.layers_sized.Statement.{statement}
 use Rattle.layers.proofs.formed.layers_sized.Tie as tie
-use Rattle.layers.proofs.formed.layers_sized.Reads as reads
-use Rattle.layers.proofs.formed.layers_sized.Lts as lts
-use Rattle.layers.proofs.formed.present.Reads as present-reads
-use Rattle.layers.proofs.formed.single_above.Reads as single-above-reads
-use Rattle.layers.proofs.formed.tally.Reads as tally-reads
-use Rattle.layers.proofs.formed.wide.Reads as wide-reads
 
 -- src/formed.rt:148:22
 sub-wide : tie.Need-sub-wide

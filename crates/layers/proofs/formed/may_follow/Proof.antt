@@ -1,10 +1,7 @@
-use Rattle.layers.proofs.Reading.{follow-zero, follow-none, follow-row}
 use borrow.Author.Needs.{needs}
+use Rattle.layers.proofs.Reading.{follow-zero, follow-none, follow-row}
 use Rattle.layers.proofs.formed.may_follow.Statement.{statement}
 use Rattle.layers.proofs.formed.may_follow.Tie as tie
-use Rattle.layers.proofs.formed.may_follow.Reads as reads
-use Rattle.layers.proofs.formed.may_follow.Lts as lts
-use Rattle.layers.proofs.table.row_before.Reads as row-before-reads
 
 -- src/formed.rt:31:9
 returns : tie.Need-returns

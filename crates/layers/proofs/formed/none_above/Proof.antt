@@ -1,16 +1,14 @@
 use Prim.Native.Nat.{_≤_, _-_}
-use mathlib.Core.Path.{_≡_, _∙_, sym}
 use native.Mathlib.Omega.{arith}
-use borrow.Author.Tests.{eq-eqb}
+use mathlib.Core.Path.{_≡_, _∙_, sym}
 use lib.Dec.{ltb}
 use lib.ListN.{length, take}
+use borrow.Author.Needs.{needs}
+use borrow.Author.Tests.{eq-eqb}
 use Rattle.lists.specs.Pages.{count}
 use Rattle.layers.proofs.Reading.{above-next, above-found, count-whole}
-use borrow.Author.Needs.{needs}
 use Rattle.layers.proofs.formed.none_above.Statement.{statement}
 use Rattle.layers.proofs.formed.none_above.Tie as tie
-use Rattle.layers.proofs.formed.none_above.Reads as reads
-use Rattle.layers.proofs.formed.none_above.Lts as lts
 
 abbrev Inv-loop : tie.InvT-loop
 Inv-loop numbers s i₀ i = (i ≤ length numbers) × (count (λ n. ltb s n) (take i numbers) ≡ 0)

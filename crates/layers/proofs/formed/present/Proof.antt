@@ -1,13 +1,11 @@
 use Prim.Native.Nat.{_≤_}
-use mathlib.Core.Path.{_≡_}
 use native.Mathlib.Omega.{arith}
+use mathlib.Core.Path.{_≡_}
+use borrow.Author.Needs.{needs}
 use Rattle.layers.specs.Sizes.{presentIn}
 use Rattle.layers.proofs.Reading.{present-next, present-bad, present-end}
-use borrow.Author.Needs.{needs}
 use Rattle.layers.proofs.formed.present.Statement.{statement}
 use Rattle.layers.proofs.formed.present.Tie as tie
-use Rattle.layers.proofs.formed.present.Reads as reads
-use Rattle.layers.proofs.formed.present.Lts as lts
 
 abbrev Inv-loop : tie.InvT-loop
 Inv-loop sizes s i₀ i = (i ≤ s) × (presentIn s sizes ≡ presentIn i sizes)

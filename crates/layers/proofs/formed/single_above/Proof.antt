@@ -1,13 +1,11 @@
 use Prim.Native.Nat.{_≤_}
-use mathlib.Core.Path.{_≡_}
 use native.Mathlib.Omega.{arith}
+use mathlib.Core.Path.{_≡_}
+use borrow.Author.Needs.{needs}
 use Rattle.layers.specs.Sizes.{singleIn}
 use Rattle.layers.proofs.Reading.{single-next, single-bad, single-end}
-use borrow.Author.Needs.{needs}
 use Rattle.layers.proofs.formed.single_above.Statement.{statement}
 use Rattle.layers.proofs.formed.single_above.Tie as tie
-use Rattle.layers.proofs.formed.single_above.Reads as reads
-use Rattle.layers.proofs.formed.single_above.Lts as lts
 
 abbrev Inv-loop : tie.InvT-loop
 Inv-loop sizes limit s i₀ i = (i ≤ s) × (singleIn limit s sizes ≡ singleIn limit i sizes)

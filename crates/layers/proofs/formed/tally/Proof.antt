@@ -1,14 +1,11 @@
 use Prim.Native.Nat.{_≤_, _-_}
 use native.Mathlib.Omega.{arith}
 use lib.ListN.{length, take}
+use borrow.Author.Needs.{needs}
 use Rattle.layers.specs.Sizes.{Tallied}
 use Rattle.layers.proofs.Reading.{tally-start, tally-low, tally-one, tally-skip, tally-end}
-use borrow.Author.Needs.{needs}
 use Rattle.layers.proofs.formed.tally.Statement.{statement}
 use Rattle.layers.proofs.formed.tally.Tie as tie
-use Rattle.layers.proofs.formed.tally.Reads as reads
-use Rattle.layers.proofs.formed.tally.Lts as lts
-use Rattle.layers.proofs.formed.wide.Reads as wide-reads
 
 abbrev Inv-loop : tie.InvT-loop
 Inv-loop numbers sizes₀ i₀ sizes i = (i ≤ length numbers) × Tallied (take i numbers) sizes

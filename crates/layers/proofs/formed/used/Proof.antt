@@ -1,15 +1,13 @@
 use Prim.Native.Nat.{_≤_, _-_}
-use mathlib.Core.Path.{_≡_, _∙_}
 use native.Mathlib.Omega.{arith}
+use mathlib.Core.Path.{_≡_, _∙_}
 use lib.Dec.{ltb}
 use lib.ListN.{length, take}
+use borrow.Author.Needs.{needs}
 use Rattle.lists.specs.Pages.{count}
 use Rattle.layers.proofs.Reading.{used-one, used-none, count-whole}
-use borrow.Author.Needs.{needs}
 use Rattle.layers.proofs.formed.used.Statement.{statement}
 use Rattle.layers.proofs.formed.used.Tie as tie
-use Rattle.layers.proofs.formed.used.Reads as reads
-use Rattle.layers.proofs.formed.used.Lts as lts
 
 abbrev Inv-loop : tie.InvT-loop
 Inv-loop numbers n₀ i₀ n i = (i ≤ length numbers) × (n ≤ i) × (n ≡ count (λ m. ltb 0 m) (take i numbers))

@@ -1,9 +1,6 @@
 use Rattle.layers.proofs.Reading.{zero-place, used-place}
-use borrow.Author.Needs.{needs}
 use Rattle.layers.proofs.formed.used_or_zero.Statement.{statement}
 use Rattle.layers.proofs.formed.used_or_zero.Tie as tie
-use Rattle.layers.proofs.formed.used_or_zero.Reads as reads
-use Rattle.layers.proofs.formed.used_or_zero.Lts as lts
 
 -- src/formed.rt:21:9
 returns : tie.Need-returns

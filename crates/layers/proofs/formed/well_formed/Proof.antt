@@ -1,21 +1,13 @@
-use mathlib.Core.Path.{sym, _∙_, ap}
-use mathlib.Core.Bool.{Bool}
 use native.Mathlib.Omega.{arith}
-use borrow.Author.Tests.{lt-leb}
+use mathlib.Core.Path.{sym, _∙_, ap}
 use lib.Seq.{length-take-le}
-use Rattle.lists.specs.Pages.{distinct}
-use Rattle.layers.specs.Rows.{rowsOf}
-use Rattle.layers.proofs.WellFormed.{ill-formed, used-pages, used-most, above-numbers, sized-numbers, formed-sized}
 use borrow.Author.Needs.{needs}
+use borrow.Author.Tests.{lt-leb}
+use Rattle.lists.specs.Pages.{distinct}
+use Rattle.paging.specs.Rows.{rowsOf}
+use Rattle.layers.proofs.WellFormed.{ill-formed, used-pages, used-most, above-numbers, sized-numbers, formed-sized}
 use Rattle.layers.proofs.formed.well_formed.Statement.{statement}
 use Rattle.layers.proofs.formed.well_formed.Tie as tie
-use Rattle.layers.proofs.formed.well_formed.Reads as reads
-use Rattle.layers.proofs.formed.well_formed.Lts as lts
-use Rattle.layers.proofs.formed.in_order.Reads as in-order-reads
-use Rattle.layers.proofs.formed.layers_sized.Reads as layers-sized-reads
-use Rattle.layers.proofs.formed.none_above.Reads as none-above-reads
-use Rattle.layers.proofs.formed.used.Reads as used-reads
-use Rattle.lists.proofs.no_page_twice.Reads as no-page-twice-reads
 
 -- src/formed.rt:171:9
 returns : tie.Need-returns

@@ -1,14 +1,11 @@
 use Prim.Native.Nat.{ℕ, suc, _+_, _-_, _≤_, _<_}
-use mathlib.Core.Path.{_≡_, refl}
 use native.Mathlib.Omega.{arith}
+use mathlib.Core.Path.{_≡_, refl}
+use borrow.Author.Needs.{needs}
 use Rattle.layers.specs.Sizes.{sumBelow}
 use Rattle.layers.proofs.Asking.{walk-next, walk-broken, walk-end}
-use borrow.Author.Needs.{needs}
 use Rattle.layers.proofs.questions.first_broken.Statement.{statement}
 use Rattle.layers.proofs.questions.first_broken.Tie as tie
-use Rattle.layers.proofs.questions.first_broken.Reads as reads
-use Rattle.layers.proofs.questions.first_broken.Lts as lts
-use Rattle.layers.proofs.formed.wide.Reads as wide-reads
 
 abbrev Inv-loop : tie.InvT-loop
 Inv-loop sizes s total₀ i₀ total i = (i ≤ s + 1) × (total ≡ sumBelow i sizes) × (total ≤ i) × ((j : ℕ) → j < i → sumBelow (suc j) sizes ≤ j)

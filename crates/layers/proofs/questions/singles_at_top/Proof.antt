@@ -1,16 +1,12 @@
 use Prim.Native.Nat.{_+_}
-use mathlib.Core.Path.{_≡_}
 use native.Mathlib.Omega.{arith}
+use mathlib.Core.Path.{_≡_}
+use borrow.Author.Needs.{needs}
 use Rattle.paging.specs.Table.{revealed}
 use Rattle.layers.specs.Sizes.{numbered}
 use Rattle.layers.proofs.Asking.{top-start, top-next, top-stop, top-end}
-use borrow.Author.Needs.{needs}
 use Rattle.layers.proofs.questions.singles_at_top.Statement.{statement}
 use Rattle.layers.proofs.questions.singles_at_top.Tie as tie
-use Rattle.layers.proofs.questions.singles_at_top.Reads as reads
-use Rattle.layers.proofs.questions.singles_at_top.Lts as lts
-use Rattle.layers.proofs.formed.tally.Reads as tally-reads
-use Rattle.layers.proofs.formed.wide.Reads as wide-reads
 
 abbrev Inv-loop : tie.InvT-loop
 Inv-loop numbers s sizes i₀ n₀ i n = (i + n ≡ s) × (revealed s (numbered numbers) ≡ n + revealed i (numbered numbers))

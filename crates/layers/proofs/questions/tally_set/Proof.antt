@@ -1,20 +1,16 @@
 use Prim.Native.Nat.{_≤_, _-_}
-use mathlib.Core.Path.{sym, _∙_}
-use mathlib.Core.List.{map}
 use native.Mathlib.Omega.{arith}
+use mathlib.Core.List.{map}
+use mathlib.Core.Path.{sym, _∙_}
 use lib.ListN.{length, take}
-use Rattle.paging.specs.Table.{numberIn}
-use Rattle.layers.specs.Rows.{rowsOf}
-use Rattle.layers.specs.Sizes.{Tallied}
-use Rattle.layers.proofs.Reading.{tally-start, tally-low, tally-one, tally-skip, tally-end}
-use Rattle.layers.proofs.Asking.{map-get, map-in, map-past}
 use borrow.Author.Needs.{needs}
+use Rattle.paging.specs.Rows.{rowsOf}
+use Rattle.paging.specs.Table.{numberIn}
+use Rattle.layers.specs.Sizes.{Tallied}
+use Rattle.layers.proofs.Asking.{map-get, map-in, map-past}
+use Rattle.layers.proofs.Reading.{tally-start, tally-low, tally-one, tally-skip, tally-end}
 use Rattle.layers.proofs.questions.tally_set.Statement.{statement}
 use Rattle.layers.proofs.questions.tally_set.Tie as tie
-use Rattle.layers.proofs.questions.tally_set.Reads as reads
-use Rattle.layers.proofs.questions.tally_set.Lts as lts
-use Rattle.layers.proofs.formed.wide.Reads as wide-reads
-use Rattle.layers.proofs.table.number_in.Reads as number-in-reads
 
 abbrev Inv-loop : tie.InvT-loop
 Inv-loop pages numbers set sizes₀ i₀ sizes i = (i ≤ length set) × Tallied (take i (map (numberIn (rowsOf numbers pages)) set)) sizes

@@ -1,15 +1,13 @@
 use Prim.Native.Nat.{_-_, _≤_}
-use mathlib.Core.Path.{_≡_, refl}
 use native.Mathlib.Omega.{arith}
+use mathlib.Core.Path.{_≡_, refl}
 use lib.ListN.{length, drop}
-use Rattle.layers.specs.Rows.{rowsOf}
+use borrow.Author.Needs.{needs}
+use Rattle.paging.specs.Rows.{rowsOf}
 use Rattle.layers.specs.Traces.{allUnused}
 use Rattle.layers.proofs.TraceLaws.{unused-next, unused-number, unused-page, unused-end}
-use borrow.Author.Needs.{needs}
 use Rattle.layers.proofs.trace.all_unused.Statement.{statement}
 use Rattle.layers.proofs.trace.all_unused.Tie as tie
-use Rattle.layers.proofs.trace.all_unused.Reads as reads
-use Rattle.layers.proofs.trace.all_unused.Lts as lts
 
 abbrev Inv-loop : tie.InvT-loop
 Inv-loop pages numbers i₀ i = (i ≤ length pages) × (allUnused (rowsOf numbers pages) ≡ allUnused (drop i (rowsOf numbers pages)))

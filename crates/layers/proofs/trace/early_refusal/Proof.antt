@@ -1,12 +1,8 @@
 use mathlib.Core.Path.{sym, _∙_}
-use Rattle.layers.proofs.TraceLaws.{early-sizes, early-long, early-uneven, early-used, early-none}
 use borrow.Author.Needs.{needs}
+use Rattle.layers.proofs.TraceLaws.{early-sizes, early-long, early-uneven, early-used, early-none}
 use Rattle.layers.proofs.trace.early_refusal.Statement.{statement}
 use Rattle.layers.proofs.trace.early_refusal.Tie as tie
-use Rattle.layers.proofs.trace.early_refusal.Reads as reads
-use Rattle.layers.proofs.trace.early_refusal.Lts as lts
-use Rattle.layers.proofs.trace.all_unused.Reads as all-unused-reads
-use Rattle.paging.proofs.Sizes.refusal.Reads as refusal-reads
 
 -- src/trace.rt:63:9
 refusal-requires : tie.Need-refusal-requires

@@ -1,11 +1,11 @@
 use Prim.Native.Nat.{_-_}
-use mathlib.Core.Path.{_≡_, refl, sym, _∙_}
 use native.Mathlib.Omega.{arith}
+use mathlib.Core.Path.{_≡_, refl, sym}
 use lib.ListN.{length, length-take, length-append, length-drop}
 use lib.Seq.{length-take-le}
-use Rattle.layers.specs.Rows.{rowsOf}
-use Rattle.layers.proofs.TraceLaws.{ServedSoFar, nothing-served, at-end, too-full, joins-fit, goes-on, stepped-lists, filled-prefix}
 use borrow.Author.Needs.{needs}
+use Rattle.paging.specs.Rows.{rowsOf}
+use Rattle.layers.proofs.TraceLaws.{ServedSoFar, nothing-served, at-end, too-full, joins-fit, goes-on, stepped-lists, filled-prefix}
 use Rattle.layers.proofs.trace.serve_all.Statement.{statement}
 use Rattle.layers.proofs.trace.serve_all.Tie as tie
 

@@ -1,8 +1,8 @@
 -- `lists::moves::copy` meets its contract: as many places as the shorter list has are written.
 use native.Mathlib.Omega.{arith}
 use mathlib.Core.Path.{_∙_}
-use Rattle.lists.proofs.Leaves.{pasted-whole, pasted-part}
 use borrow.Author.Needs.{needs}
+use Rattle.lists.proofs.Leaves.{pasted-whole, pasted-part}
 use Rattle.lists.proofs.moves.copy.Statement.{statement}
 use Rattle.lists.proofs.moves.copy.Tie as tie
 

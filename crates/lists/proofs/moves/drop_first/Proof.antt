@@ -1,8 +1,8 @@
 -- `lists::moves::drop_first` meets its contract: what stays is shifted to the front, and the places behind it are filled with zero.
 use native.Mathlib.Omega.{arith}
 use mathlib.Core.Path.{_∙_}
-use Rattle.lists.proofs.Leaves.{dropped-all, dropped-made}
 use borrow.Author.Needs.{needs}
+use Rattle.lists.proofs.Leaves.{dropped-all, dropped-made}
 use Rattle.lists.proofs.moves.drop_first.Statement.{statement}
 use Rattle.lists.proofs.moves.drop_first.Tie as tie
 

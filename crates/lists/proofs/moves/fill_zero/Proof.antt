@@ -3,8 +3,8 @@ use Prim.Native.Nat.{_≤_, _-_}
 use native.Mathlib.Omega.{arith}
 use mathlib.Core.Path.{_≡_}
 use lib.ListN.{length, replicate, length-set}
-use Rattle.lists.proofs.Leaves.{over, over-none, zero-turn, zero-done}
 use borrow.Author.Needs.{needs}
+use Rattle.lists.proofs.Leaves.{over, over-none, zero-turn, zero-done}
 use Rattle.lists.proofs.moves.fill_zero.Statement.{statement}
 use Rattle.lists.proofs.moves.fill_zero.Tie as tie
 

@@ -3,8 +3,8 @@ use Prim.Native.Nat.{_≤_, _-_}
 use native.Mathlib.Omega.{arith}
 use mathlib.Core.Path.{_≡_, refl}
 use lib.ListN.{length, length-set}
-use Rattle.lists.proofs.Leaves.{over, over-none, over-stored, put-done}
 use borrow.Author.Needs.{needs}
+use Rattle.lists.proofs.Leaves.{over, over-none, over-stored, put-done}
 use Rattle.lists.proofs.moves.put.Statement.{statement}
 use Rattle.lists.proofs.moves.put.Tie as tie
 

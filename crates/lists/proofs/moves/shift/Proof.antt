@@ -3,8 +3,8 @@ use Prim.Native.Nat.{_≤_, _-_}
 use native.Mathlib.Omega.{arith}
 use mathlib.Core.Path.{_≡_}
 use lib.ListN.{length, drop, length-set}
-use Rattle.lists.proofs.Leaves.{over, over-none, shift-turn, shift-done}
 use borrow.Author.Needs.{needs}
+use Rattle.lists.proofs.Leaves.{over, over-none, shift-turn, shift-done}
 use Rattle.lists.proofs.moves.shift.Statement.{statement}
 use Rattle.lists.proofs.moves.shift.Tie as tie
 

@@ -2,9 +2,9 @@
 use Prim.Native.Nat.{_≤_, _-_}
 use native.Mathlib.Omega.{arith}
 use mathlib.Core.Path.{_≡_}
-use lib.ListN.{length, getD, length-set}
-use Rattle.lists.proofs.Leaves.{over, gap, moved-none, gap-start, gap-turn, gap-closed}
+use lib.ListN.{length, length-set}
 use borrow.Author.Needs.{needs}
+use Rattle.lists.proofs.Leaves.{over, gap, moved-none, gap-start, gap-turn, gap-closed}
 use Rattle.lists.proofs.moves.to_end.Statement.{statement}
 use Rattle.lists.proofs.moves.to_end.Tie as tie
 

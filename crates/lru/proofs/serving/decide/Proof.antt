@@ -1,6 +1,6 @@
 -- `lru::serving::decide` meets its contract: the place found is below the length exactly if the page is held.
-use Rattle.lru.proofs.Served.{finds-held, finds-room, finds-full}
 use borrow.Author.Needs.{needs}
+use Rattle.lru.proofs.Served.{finds-held, finds-room, finds-full}
 use Rattle.lru.proofs.serving.decide.Statement.{statement}
 use Rattle.lru.proofs.serving.decide.Tie as tie
 

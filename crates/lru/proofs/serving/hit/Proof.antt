@@ -1,9 +1,8 @@
 -- `lru::serving::hit` meets its contract: the page moved to the end of the pages held, then zeros up to k.
 use native.Mathlib.Omega.{arith}
 use lib.ListN.{length-take}
-use mathlib.Core.Path.{sym}
-use Rattle.lru.proofs.Laying.{hit-laid}
 use borrow.Author.Needs.{needs}
+use Rattle.lru.proofs.Laying.{hit-laid}
 use Rattle.lru.proofs.serving.hit.Statement.{statement}
 use Rattle.lru.proofs.serving.hit.Tie as tie
 

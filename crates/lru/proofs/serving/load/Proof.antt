@@ -1,9 +1,8 @@
 -- `lru::serving::load` meets its contract: the bundle copied out, the others moved to the front, the page behind them, then zeros up to k.
 use native.Mathlib.Omega.{arith}
-use mathlib.Core.Path.{sym}
 use lib.ListN.{length-set, length-take}
-use Rattle.lru.proofs.Laying.{load-cache-length, load-laid, load-bundle, load-length-kept}
 use borrow.Author.Needs.{needs}
+use Rattle.lru.proofs.Laying.{load-cache-length, load-laid, load-bundle, load-length-kept}
 use Rattle.lru.proofs.serving.load.Statement.{statement}
 use Rattle.lru.proofs.serving.load.Tie as tie
 

@@ -4,9 +4,9 @@ use native.Mathlib.Omega.{arith}
 use mathlib.Core.Path.{_≡_, refl, _∙_}
 use lib.ListN.{length, take}
 use lib.Seq.{length-take-le}
+use borrow.Author.Needs.{needs}
 use Rattle.lru.specs.Standing.{Stands}
 use Rattle.lru.proofs.Steps.{stands-first, stands-ready, stands-next, stands-whole}
-use borrow.Author.Needs.{needs}
 use Rattle.lru.proofs.serving.run_over.Statement.{statement}
 use Rattle.lru.proofs.serving.run_over.Tie as tie
 

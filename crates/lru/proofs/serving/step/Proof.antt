@@ -2,8 +2,8 @@
 use native.Mathlib.Omega.{arith}
 use mathlib.Core.Path.{sym, _∙_}
 use lib.ListN.{take, length-take}
-use Rattle.lru.proofs.Served.{length-held, room-told, full-told, served-hit, served-load, served-bundle}
 use borrow.Author.Needs.{needs}
+use Rattle.lru.proofs.Served.{length-held, room-told, full-told, served-hit, served-load, served-bundle}
 use Rattle.lru.proofs.serving.step.Statement.{statement}
 use Rattle.lru.proofs.serving.step.Tie as tie
 

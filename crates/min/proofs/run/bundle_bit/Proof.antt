@@ -1,5 +1,4 @@
 use borrow.Author.Tests.{ne-eqb}
-use borrow.Author.Needs.{needs}
 use Rattle.min.proofs.run.bundle_bit.Statement.{statement}
 use Rattle.min.proofs.run.bundle_bit.Tie as tie
 

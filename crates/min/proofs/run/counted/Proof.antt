@@ -1,10 +1,8 @@
 use native.Mathlib.Omega.{arith}
-use mathlib.Core.Path.{_≡_, sym, _∙_}
-use lib.ListN.{length, getD}
-use Rattle.min.specs.Run.{Ready}
-use Rattle.min.proofs.Sorting.{at-below}
-use Rattle.min.proofs.Model.{best-same, loads-same}
+use mathlib.Core.Path.{_∙_}
 use borrow.Author.Needs.{needs}
+use Rattle.keys.proofs.Sorting.{at-below}
+use Rattle.min.proofs.Model.{best-same, loads-same}
 use Rattle.min.proofs.run.counted.Statement.{statement}
 use Rattle.min.proofs.run.counted.Tie as tie
 

@@ -1,7 +1,6 @@
-use borrow.Author.Tests.{eqb-true, ne-eqb}
-use Rattle.lists.proofs.Choice.{cases}
 use lib.Dec.{eqb}
-use borrow.Author.Needs.{needs}
+use borrow.Author.Tests.{ne-eqb}
+use Rattle.lists.proofs.Choice.{cases}
 use Rattle.min.proofs.run.load_bit.Statement.{statement}
 use Rattle.min.proofs.run.load_bit.Tie as tie
 

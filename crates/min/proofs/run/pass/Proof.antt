@@ -1,13 +1,13 @@
-use Prim.Native.Nat.{_≤_, _-_}
+use Prim.Native.Nat.{_-_}
 use native.Mathlib.Omega.{arith}
-use mathlib.Core.Path.{_≡_, refl, sym, _∙_}
-use lib.ListN.{length, take}
+use mathlib.Core.Path.{refl, sym}
+use lib.ListN.{length}
+use borrow.Author.Needs.{needs}
 use Rattle.lists.proofs.Choice.{bit-le}
 use Rattle.paging.specs.Policy.{isBundled, isLoad}
-use Rattle.min.specs.Keys.{kindFrom}
+use Rattle.keys.specs.Keys.{kindFrom}
 use Rattle.min.specs.Run.{Counting}
 use Rattle.min.proofs.Turn.{lefts-long, room, counting-turn, counting-starts, counting-ends, count-kinds}
-use borrow.Author.Needs.{needs}
 use Rattle.min.proofs.run.pass.Statement.{statement}
 use Rattle.min.proofs.run.pass.Tie as tie
 

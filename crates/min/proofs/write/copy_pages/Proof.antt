@@ -1,12 +1,12 @@
 use Prim.Native.Nat.{_≤_, _-_}
 use native.Mathlib.Omega.{arith}
-use mathlib.Core.Path.{_≡_, refl}
 use mathlib.Core.List.{map}
+use mathlib.Core.Path.{_≡_, refl}
 use lib.ListN.{length, length-set}
-use Rattle.min.specs.Keys.{pageOf, over}
-use Rattle.min.proofs.Places.{over-none}
-use Rattle.min.proofs.Written.{pages-turn, pages-done}
 use borrow.Author.Needs.{needs}
+use Rattle.keys.specs.Keys.{pageOf, over}
+use Rattle.keys.proofs.Places.{over-none}
+use Rattle.min.proofs.Written.{pages-turn, pages-done}
 use Rattle.min.proofs.write.copy_pages.Statement.{statement}
 use Rattle.min.proofs.write.copy_pages.Tie as tie
 

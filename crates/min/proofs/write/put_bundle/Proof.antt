@@ -1,9 +1,9 @@
 use native.Mathlib.Omega.{arith}
-use mathlib.Core.Path.{_≡_, sym, _∙_}
-use lib.ListN.{length, take}
+use mathlib.Core.Path.{sym}
+use lib.ListN.{take}
 use lib.Seq.{length-take-le}
-use Rattle.min.proofs.Written.{put-bundle-is}
 use borrow.Author.Needs.{needs}
+use Rattle.min.proofs.Written.{put-bundle-is}
 use Rattle.min.proofs.write.put_bundle.Statement.{statement}
 use Rattle.min.proofs.write.put_bundle.Tie as tie
 

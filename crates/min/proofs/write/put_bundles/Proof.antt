@@ -1,11 +1,11 @@
-use Prim.Native.Nat.{_≤_, _-_}
+use Prim.Native.Nat.{_-_}
 use native.Mathlib.Omega.{arith}
-use mathlib.Core.Path.{_≡_, refl, sym, _∙_}
-use lib.ListN.{length, take}
+use mathlib.Core.Path.{refl, sym}
+use lib.ListN.{length}
+use borrow.Author.Needs.{needs}
 use Rattle.min.specs.Run.{Writing}
 use Rattle.min.proofs.Turn.{lefts-long, room}
 use Rattle.min.proofs.Written.{writing-starts, writing-turn, writing-ends, bundle-room}
-use borrow.Author.Needs.{needs}
 use Rattle.min.proofs.write.put_bundles.Statement.{statement}
 use Rattle.min.proofs.write.put_bundles.Tie as tie
 

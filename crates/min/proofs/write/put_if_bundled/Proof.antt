@@ -1,9 +1,7 @@
 use native.Mathlib.Omega.{arith}
-use mathlib.Core.Path.{_≡_, sym, _∙_}
 use mathlib.Core.Logic.{inl, inr}
-use lib.ListN.{length, take}
-use Rattle.min.proofs.Written.{puts-none, puts-room, ev-room, puts-some}
 use borrow.Author.Needs.{needs}
+use Rattle.min.proofs.Written.{puts-none, puts-room, ev-room, puts-some}
 use Rattle.min.proofs.write.put_if_bundled.Statement.{statement}
 use Rattle.min.proofs.write.put_if_bundled.Tie as tie
 

@@ -1,9 +1,8 @@
-use native.Mathlib.Omega.{arith}
-use mathlib.Core.Path.{_≡_, ap, _∙_}
 use Prim.Native.Nat.{ℕ, _+_, _*_}
-use Rattle.records.specs.Bytes.{evLength, tableEntry}
-use Rattle.min.proofs.Written.{table-is, product-fits}
+use native.Mathlib.Omega.{arith}
+use mathlib.Core.Path.{ap, _∙_}
 use borrow.Author.Needs.{needs}
+use Rattle.min.proofs.Written.{table-is, product-fits}
 use Rattle.min.proofs.write.schedule_length.Statement.{statement}
 use Rattle.min.proofs.write.schedule_length.Tie as tie
 

@@ -1,10 +1,8 @@
 use native.Mathlib.Omega.{arith}
-use mathlib.Core.Path.{_≡_, sym, _∙_, ap}
-use lib.ListN.{length, take}
-use Rattle.min.proofs.Sorting.{at-below}
+use borrow.Author.Needs.{needs}
+use Rattle.keys.proofs.Sorting.{at-below}
 use Rattle.min.proofs.Refused.{scheduled-few, scheduled-whole}
 use Rattle.min.proofs.Written.{best-few, schedule-length-is, evs-fit, schedule-placed}
-use borrow.Author.Needs.{needs}
 use Rattle.min.proofs.write.scheduled.Statement.{statement}
 use Rattle.min.proofs.write.scheduled.Tie as tie
 

@@ -1,9 +1,9 @@
 -- `paging::Sizes::refusal` meets its contract: the tests that led to each return are the conditions of `sizesRefusal`.
 use borrow.Author.Tests.{eq-eqb, ne-eqb, lt-ltb, le-ltb}
-use Rattle.paging.proofs.Sizes.refusal.Statement.{statement}
-use Rattle.paging.proofs.Sizes.refusal.Tie as tie
 use Rattle.lists.specs.Choice.{_or_}
 use Rattle.paging.specs.Refusals.{sizesRefusal}
+use Rattle.paging.proofs.Sizes.refusal.Statement.{statement}
+use Rattle.paging.proofs.Sizes.refusal.Tie as tie
 
 returns : tie.Need-returns
 unfolding sizesRefusal _or_

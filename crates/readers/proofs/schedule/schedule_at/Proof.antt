@@ -37,11 +37,11 @@ use denote.Triple.Table.{entered, cited}
 use denote.Triple.Walked.{says, Stays, stay-none, stay-none-slice, walkOf, goes-none, goes-none-slice, Walks, ends-at, walked, walk-meets}
 use denote.Exit.{yes}
 use denote.Triple.Clauses.{ensured, lasts}
-use Rattle.records.specs.Reading.{readSchedule}
-use Rattle.records.specs.Answers.{scheduleAnswer}
-use Rattle.records.specs.declared.read.ScheduleRecord.{ScheduleRecord}
-use Rattle.records.proofs.read.ScheduleRecord as told
-use Rattle.records.proofs.read.ScheduleRecord.Laws as told-laws
+use Rattle.reading.specs.Reading.{readSchedule}
+use Rattle.reading.specs.Answers.{scheduleAnswer}
+use Rattle.reading.specs.declared.ScheduleRecord.{ScheduleRecord}
+use Rattle.reading.proofs.ScheduleRecord as told
+use Rattle.reading.proofs.ScheduleRecord.Laws as told-laws
 use Rattle.readers.specs.declared.schedule.ScheduleReader.{ScheduleReader}
 use Rattle.readers.proofs.schedule.ScheduleReader as held
 use Rattle.readers.proofs.schedule.ScheduleReader.Laws as laws

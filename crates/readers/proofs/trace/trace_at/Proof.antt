@@ -37,11 +37,11 @@ use denote.Triple.Table.{entered, cited}
 use denote.Triple.Walked.{says, Stays, stay-none, stay-none-slice, walkOf, goes-none, goes-none-slice, Walks, ends-at, walked, walk-meets}
 use denote.Exit.{yes}
 use denote.Triple.Clauses.{ensured, lasts}
-use Rattle.records.specs.Reading.{readTrace}
-use Rattle.records.specs.Answers.{traceAnswer}
-use Rattle.records.specs.declared.read.TraceRecord.{TraceRecord}
-use Rattle.records.proofs.read.TraceRecord as told
-use Rattle.records.proofs.read.TraceRecord.Laws as told-laws
+use Rattle.reading.specs.Reading.{readTrace}
+use Rattle.reading.specs.Answers.{traceAnswer}
+use Rattle.reading.specs.declared.TraceRecord.{TraceRecord}
+use Rattle.reading.proofs.TraceRecord as told
+use Rattle.reading.proofs.TraceRecord.Laws as told-laws
 use Rattle.readers.specs.declared.trace.TraceReader.{TraceReader}
 use Rattle.readers.proofs.trace.TraceReader as held
 use Rattle.readers.proofs.trace.TraceReader.Laws as laws

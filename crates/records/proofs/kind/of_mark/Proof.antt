@@ -1,7 +1,6 @@
 -- `records::kind::of_mark` meets its contract: each arm's number is the mark that `markOf` tests, and the last arm is none of them.
-use Rattle.records.proofs.Reading.{mark-other}
 use Rattle.records.specs.Marks.{markOf}
-use borrow.Author.Needs.{needs}
+use Rattle.records.proofs.Marks.{mark-other}
 use Rattle.records.proofs.kind.of_mark.Statement.{statement}
 use Rattle.records.proofs.kind.of_mark.Tie as tie
 

@@ -1,10 +1,10 @@
 -- `records::length::ev_length` meets its contract: the constant table computes to the values of its rule, and one law gives each entry.
-use mathlib.Core.Path.{_∙_, sym}
 use native.Mathlib.Omega.{arith}
-use Rattle.records.specs.Bytes.{evLength}
-use Rattle.records.proofs.Table.{entry}
-use Rattle.records.proofs.Lengths.{entry-is, no-entry}
+use mathlib.Core.Path.{_∙_, sym}
 use borrow.Author.Needs.{needs}
+use Rattle.records.specs.Bytes.{evLength}
+use Rattle.records.proofs.Lengths.{entry-is, no-entry}
+use Rattle.records.proofs.Table.{entry}
 use Rattle.records.proofs.length.ev_length.Statement.{statement}
 use Rattle.records.proofs.length.ev_length.Tie as tie
 

@@ -1,15 +1,14 @@
 -- `records::put::ev` meets its contract: the fixed fields and the pages, stored one behind the other, are the record.
-use mathlib.Core.Path.{_≡_, _∙_, sym}
-use native.Mathlib.Omega.{arith}
 use Prim.Native.Nat.{_<_, _≤_}
+use native.Mathlib.Omega.{arith}
+use mathlib.Core.Path.{_≡_, _∙_, sym}
 use lib.ListN.{length}
-use Rattle.wire.specs.Numbers.{bytes16, bytes32, allBytes32}
-use Rattle.records.specs.Marks.{markEV}
-use Rattle.records.specs.Bytes.{evBytes, evLength}
-use Rattle.records.specs.Writing.{pagesRefused}
-use Rattle.records.proofs.Writing.{put-barred, put-short, put-whole, stored4, pages-none, pages-many, pages-fine}
-use Rattle.records.proofs.Lengths.{entry-is, length-evBytes}
 use borrow.Author.Needs.{needs}
+use Rattle.wire.specs.Numbers.{bytes16, bytes32, allBytes32}
+use Rattle.records.specs.Bytes.{evBytes, evLength}
+use Rattle.records.specs.Marks.{markEV}
+use Rattle.records.proofs.Lengths.{entry-is, length-evBytes}
+use Rattle.records.proofs.Writing.{put-barred, put-short, put-whole, stored4, pages-none, pages-many, pages-fine}
 use Rattle.records.proofs.put.ev.Statement.{statement}
 use Rattle.records.proofs.put.ev.Tie as tie
 

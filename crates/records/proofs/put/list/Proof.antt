@@ -1,11 +1,11 @@
 -- `records::put::list` meets its contract: after i turns the first i pages stand behind the fixed fields, and nothing else has changed.
 use Prim.Native.Nat.{_≤_, _-_}
-use mathlib.Core.Path.{_≡_, refl}
 use native.Mathlib.Omega.{arith}
+use mathlib.Core.Path.{_≡_, refl}
 use lib.ListN.{length, take}
+use borrow.Author.Needs.{needs}
 use Rattle.wire.specs.Numbers.{allBytes32, placed}
 use Rattle.records.proofs.Writing.{none-placed, page-placed, all-placed}
-use borrow.Author.Needs.{needs}
 use Rattle.records.proofs.put.list.Statement.{statement}
 use Rattle.records.proofs.put.list.Tie as tie
 

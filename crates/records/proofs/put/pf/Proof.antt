@@ -1,12 +1,12 @@
 -- `records::put::pf` meets its contract: three stores, one behind the other, are the record.
-use mathlib.Core.Path.{refl}
-use mathlib.Core.Bool.{false}
-use Rattle.wire.specs.Numbers.{bytes16, bytes32}
-use Rattle.records.specs.Marks.{markPF}
-use Rattle.records.specs.Bytes.{pfBytes}
-use Rattle.records.proofs.Writing.{put-short, put-whole, stored3}
 use native.Mathlib.Omega.{arith}
+use mathlib.Core.Bool.{false}
+use mathlib.Core.Path.{refl}
 use borrow.Author.Needs.{needs}
+use Rattle.wire.specs.Numbers.{bytes16, bytes32}
+use Rattle.records.specs.Bytes.{pfBytes}
+use Rattle.records.specs.Marks.{markPF}
+use Rattle.records.proofs.Writing.{put-short, put-whole, stored3}
 use Rattle.records.proofs.put.pf.Statement.{statement}
 use Rattle.records.proofs.put.pf.Tie as tie
 

@@ -1,12 +1,12 @@
 -- `records::put::rq` meets its contract: two stores, one behind the other, are the record.
-use mathlib.Core.Path.{refl}
-use mathlib.Core.Bool.{false}
-use Rattle.wire.specs.Numbers.{bytes16, bytes32}
-use Rattle.records.specs.Marks.{markRQ}
-use Rattle.records.specs.Bytes.{rqBytes}
-use Rattle.records.proofs.Writing.{put-short, put-whole, stored2}
 use native.Mathlib.Omega.{arith}
+use mathlib.Core.Bool.{false}
+use mathlib.Core.Path.{refl}
 use borrow.Author.Needs.{needs}
+use Rattle.wire.specs.Numbers.{bytes16, bytes32}
+use Rattle.records.specs.Bytes.{rqBytes}
+use Rattle.records.specs.Marks.{markRQ}
+use Rattle.records.proofs.Writing.{put-short, put-whole, stored2}
 use Rattle.records.proofs.put.rq.Statement.{statement}
 use Rattle.records.proofs.put.rq.Tie as tie
 

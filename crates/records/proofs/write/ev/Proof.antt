@@ -1,15 +1,13 @@
 -- `records::write::ev` meets its contract: 6, then 9 or 8, else the record is put and its length fits.
-use mathlib.Core.Path.{_≡_, _∙_, sym, refl}
 use native.Mathlib.Omega.{arith}
-use Rattle.records.specs.Bytes.{evBytes}
-use Rattle.records.specs.Writing.{evRefusal}
-use Rattle.records.proofs.Writing.{refuses, room-by, room-fits, put-fits, put-writes}
-use borrow.Author.Tests.{eqb-false}
+use mathlib.Core.Path.{_∙_, sym, refl}
 use lib.ListN.{length}
-use Rattle.records.specs.Writing.{pagesRefused}
-use Rattle.records.proofs.Writing.{pages-none, pages-many, pages-fine}
-use Rattle.records.proofs.Lengths.{entry-is, length-evBytes}
 use borrow.Author.Needs.{needs}
+use borrow.Author.Tests.{eqb-false}
+use Rattle.records.specs.Bytes.{evBytes}
+use Rattle.records.specs.Writing.{evRefusal, pagesRefused}
+use Rattle.records.proofs.Lengths.{entry-is, length-evBytes}
+use Rattle.records.proofs.Writing.{refuses, room-by, room-fits, put-fits, put-writes, pages-none, pages-many, pages-fine}
 use Rattle.records.proofs.write.ev.Statement.{statement}
 use Rattle.records.proofs.write.ev.Tie as tie
 

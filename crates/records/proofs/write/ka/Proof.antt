@@ -1,12 +1,11 @@
 -- `records::write::ka` meets its contract: 1 or 2, then 9 or 8, else the record is put and its length fits.
-use mathlib.Core.Path.{_≡_, _∙_, sym, refl}
 use native.Mathlib.Omega.{arith}
+use mathlib.Core.Bool.{false}
+use mathlib.Core.Path.{_∙_, sym, refl}
+use borrow.Author.Needs.{needs}
 use Rattle.records.specs.Bytes.{kaBytes}
 use Rattle.records.specs.Writing.{kaRefusal}
-use Rattle.records.proofs.Writing.{refuses, room-by, room-fits, put-fits, put-writes}
-use mathlib.Core.Bool.{false}
-use Rattle.records.proofs.Writing.{sizes-pass, sizes-refuse, sizes-fine}
-use borrow.Author.Needs.{needs}
+use Rattle.records.proofs.Writing.{refuses, room-by, room-fits, put-fits, put-writes, sizes-pass, sizes-refuse, sizes-fine}
 use Rattle.records.proofs.write.ka.Statement.{statement}
 use Rattle.records.proofs.write.ka.Tie as tie
 

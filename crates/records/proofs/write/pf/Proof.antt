@@ -1,11 +1,11 @@
 -- `records::write::pf` meets its contract: 9 or 8, else the record is put and its length fits.
-use mathlib.Core.Path.{_≡_, _∙_, sym, refl}
 use native.Mathlib.Omega.{arith}
+use mathlib.Core.Bool.{false}
+use mathlib.Core.Path.{_∙_, sym, refl}
+use borrow.Author.Needs.{needs}
 use Rattle.records.specs.Bytes.{pfBytes}
 use Rattle.records.specs.Writing.{pfRefusal}
 use Rattle.records.proofs.Writing.{refuses, room-by, room-fits, put-fits, put-writes}
-use mathlib.Core.Bool.{false}
-use borrow.Author.Needs.{needs}
 use Rattle.records.proofs.write.pf.Statement.{statement}
 use Rattle.records.proofs.write.pf.Tie as tie
 

@@ -1,6 +1,5 @@
 -- `records::write::room` meets its contract: its two tests are those of the definition, in its order.
 use borrow.Author.Tests.{lt-ltb, le-ltb}
-use borrow.Author.Needs.{needs}
 use Rattle.records.proofs.write.room.Statement.{statement}
 use Rattle.records.proofs.write.room.Tie as tie
 

@@ -1,12 +1,7 @@
-use Rattle.report.proofs.FiguresLaws.{figures-told}
 use borrow.Author.Needs.{needs}
+use Rattle.report.proofs.FiguresLaws.{figures-told}
 use Rattle.report.proofs.figures.of.Statement.{statement}
 use Rattle.report.proofs.figures.of.Tie as tie
-use Rattle.report.proofs.figures.of.Reads as reads
-use Rattle.report.proofs.figures.of.Lts as lts
-use Rattle.layers.proofs.over_trace.Reads as over-trace-reads
-use Rattle.lru.proofs.over_trace.Reads as over-trace-reads′
-use Rattle.min.proofs.count.Reads as count-reads
 
 -- src/figures.rt:15:9
 count-requires : tie.Need-count-requires

@@ -1,4 +1,4 @@
--- `TraceReader::read` meets its contract, its steps followed by hand: the reader is taken apart, and `records::read::trace` is called on the file and the
+-- `TraceReader::read` meets its contract, its steps followed by hand: the reader is taken apart, and `reading::trace` is called on the file and the
 -- offset. Of that function nothing is known here but that it meets its contract. A reader may be copied: one copy of what it owns is kept for the
 -- caller, of the other the file's part goes to the call.
 use mathlib.Core.Path.{_≡_, refl}
@@ -43,15 +43,15 @@ use denote.Triple.Table.{entered, cited}
 use denote.Triple.Walked.{says, Stays, stay-none, walkOf, goes-none, Walks, ends-at, walked, walk-meets}
 use denote.Exit.{yes}
 use denote.Triple.Clauses.{ensured, lasts}
-use Rattle.records.specs.Reading.{readTrace}
-use Rattle.records.specs.Answers.{traceAnswer}
-use Rattle.records.specs.declared.read.TraceRecord.{TraceRecord}
-use Rattle.records.proofs.read.TraceRecord as told
-use Rattle.records.proofs.read.TraceRecord.Laws as told-laws
-use Rattle.records.proofs.read.trace as cursor
-use Rattle.records.proofs.read.trace.Symbol as cursor-code
-use Rattle.records.proofs.read.trace.Symbol.{name as #records·trace}
-use Rattle.records.proofs.read.trace.Met as cursor-met
+use Rattle.reading.specs.Reading.{readTrace}
+use Rattle.reading.specs.Answers.{traceAnswer}
+use Rattle.reading.specs.declared.TraceRecord.{TraceRecord}
+use Rattle.reading.proofs.TraceRecord as told
+use Rattle.reading.proofs.TraceRecord.Laws as told-laws
+use Rattle.reading.proofs.trace as cursor
+use Rattle.reading.proofs.trace.Symbol as cursor-code
+use Rattle.reading.proofs.trace.Symbol.{name as #reading·trace}
+use Rattle.reading.proofs.trace.Met as cursor-met
 use Rattle.readers.specs.declared.trace.TraceReader.{TraceReader}
 use Rattle.readers.proofs.trace.TraceReader as held
 use Rattle.readers.proofs.trace.TraceReader.Laws as laws
@@ -134,7 +134,7 @@ module _ {M : Type 1} (𝓤 : URA M) (H : Heap 𝓤) (A : Atoms 𝓤) (W : Given
       suffices ! _ (ends-at 𝓤 H A read.ended kept (read.clauses 𝓤 H A mem run) W (((κ, tt), (q, tt), tt, (reader, tt), (machine ∷ [], tt)), tt) u r (tt, tt) (tt, tt)) $
       says ! e $ move ! (1 ∷ []) $ frame ! $ nothing ! $ move ! (2 ∷ 0 ∷ []) $ fjoin ! $ frame ! $ done !
 
-  module _ (C : Calls 𝓤 H) (Λ : Loops 𝓤 H) (fm : FmC 𝓤 H (W .laws) C) (known : Triple 𝓤 (C #records·trace) (Cursor 𝓤 H A mem run)) where
+  module _ (C : Calls 𝓤 H) (Λ : Loops 𝓤 H) (fm : FmC 𝓤 H (W .laws) C) (known : Triple 𝓤 (C #reading·trace) (Cursor 𝓤 H A mem run)) where
     follows : Holds (hasTy (laws.mir (named 0)) machine) × WT machine → ent 𝓤 Entry (WpFn 𝓤 H C Λ code.function (machine ∷ []) Exit)
     follows typed =
         qed W (raw Entry ∷ []) ∵ enter ! C Λ code.function (machine ∷ []) _ $
@@ -153,7 +153,7 @@ module _ {M : Type 1} (𝓤 : URA M) (H : Heap 𝓤) (A : Atoms 𝓤) (W : Given
         move ! (9 ∷ 10 ∷ []) $ free1 ! $ move ! (7 ∷ 8 ∷ []) $ free1 ! $ move ! (5 ∷ 6 ∷ []) $ free1 ! $ move ! (3 ∷ 4 ∷ []) $ free1 ! $ free0 ! $ by ! (leaves r u e)))))))))
 
 meets : {M : Type 1} (𝓤 : URA M) (H : Heap 𝓤) (A : Atoms 𝓤) (W : Given 𝓤 H A) (mem : Memory → SProp 𝓤) (run : Routine → Fun 𝓤) (𝓣 : Tables 𝓤 H)
-    → Triple 𝓤 (𝓣 .C #records·trace) (Cursor 𝓤 H A mem run)
+    → Triple 𝓤 (𝓣 .C #reading·trace) (Cursor 𝓤 H A mem run)
     → Meets 𝓤 H A read.signature (WpFn 𝓤 H (𝓣 .C) (𝓣 .Λ) code.function) (read.spec 𝓤 H A mem run)
 meets 𝓤 H A W mem run 𝓣 known =
     walk-meets 𝓤 H A read.ended kept W (goes-none 𝓤 H A W 1 Row yes (λ κs x f. refl), tt) (read.clauses 𝓤 H A mem run)
@@ -172,4 +172,4 @@ read-spec 𝓤 H 𝓜 𝓖 𝓡 =
     entered 𝓤 H (tripleOf 𝓤 H (𝓖 .A) read.signature (read.spec 𝓤 H (𝓖 .A) (𝓜 .mem) (𝓡 .run))) (𝓣 .C) (𝓣 .Λ) #readers·read code.function
     (code.unfolded 𝓤 H 𝓜 𝓡)
     (meets 𝓤 H (𝓖 .A) (givenOf 𝓤 H 𝓜 𝓖) (𝓜 .mem) (𝓡 .run) (tablesOf 𝓤 H 𝓜 𝓣)
-    (cited 𝓤 H (Cursor 𝓤 H (𝓖 .A) (𝓜 .mem) (𝓡 .run)) 𝓜 𝓡 code.env #records·trace cursor-code.routine code.calls-records·read·trace (cursor-met.met 𝓤 H 𝓜 𝓖 𝓡)))
+    (cited 𝓤 H (Cursor 𝓤 H (𝓖 .A) (𝓜 .mem) (𝓡 .run)) 𝓜 𝓡 code.env #reading·trace cursor-code.routine code.calls-reading·trace (cursor-met.met 𝓤 H 𝓜 𝓖 𝓡)))

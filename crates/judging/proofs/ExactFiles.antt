@@ -1,0 +1,187 @@
+-- Exactness over files: the judge answers the cost c exactly if the two files are, byte for byte, a trace and a legal schedule of it
+-- with the cost c.
+use Prim.Native.Nat.{ℕ, zero, suc, _≤_, _<_}
+use native.Mathlib.Omega.{arith}
+use mathlib.Core.Bool.{true, false}
+use mathlib.Core.List.{List, [], _∷_}
+use mathlib.Core.Logic.{_↔_}
+use mathlib.Core.Path.{_≡_, refl, sym, ap, _∙_}
+use lib.Dec.{eqb, leb, ltb}
+use lib.ListN.{length, drop}
+use borrow.Author.Tests.{eq-eqb, le-ltb}
+use Rattle.lists.specs.Choice.{_and_, _or_}
+use Rattle.lists.proofs.Choice.{cases, tests, and-l, and-r, and-i, or-none-l, or-none-r}
+use Rattle.paging.specs.Refusals.{sizesRefusal}
+use Rattle.paging.specs.Schedule.{Entry, ev, pf, serves, entriesCost}
+use Rattle.wire.specs.Numbers.{Bytes}
+use Rattle.wire.proofs.Numbers.{length-nums32}
+use Rattle.records.specs.Bytes.{scheduleBytes, AllWritable}
+use Rattle.reading.specs.Files.{File, walk, onward, entriesIn, requestsFrom, entriesFrom}
+use Rattle.reading.specs.Reading.{readTrace, readSchedule}
+use Rattle.reading.specs.Reading as reading
+use Rattle.reading.proofs.Exact.{trace-exact, schedule-exact}
+use Rattle.reading.proofs.Facts.{trace-says, schedule-facts, ScheduleFacts}
+use Rattle.reading.proofs.RoundTrip.{trace-reads-back, schedule-reads-back}
+use Rattle.reading.proofs.Walk.{requests-sizes, entries-sizes}
+use Rattle.judging.specs.Answer.{Answer, cost, refused}
+use Rattle.judging.specs.Files.{behindKa, behindRequests, longest, scheduleJudged, judged}
+use Rattle.judging.specs.Judging.{judgedFrom, standsFirst}
+use Rattle.judging.specs.LegalFiles.{LegalFiles}
+use Rattle.judging.proofs.Exact.{sized, sizedEntry, no-cost, no-damage, exact}
+
+-- A bundle that was read has 1 to a pages
+
+module _ (bound : ℕ) (s : List ℕ) where
+  sized-onward : (at : ℕ) (x : reading.Answer) (go : ℕ → File Entry) → ScheduleFacts bound s at x → ((next : ℕ) → sized bound (go next .held) ≡ true)
+      → sized bound (onward (entriesIn s x) x go .held) ≡ true
+  sized-onward at (reading.refused n) go f h = refl
+  sized-onward at reading.ended go f h = refl
+  sized-onward at (reading.sizes k a next) go f h = h next
+  sized-onward at (reading.request page next) go f h = absurd f
+  sized-onward at (reading.bundle t n from next) go f h =
+      let size = length-nums32 n (drop from s) in
+      let low = f .some in
+      let high = f .bounded in
+      and-i _ _ (and-i _ _ (omega tests) (omega tests)) (h next)
+  sized-onward at (reading.fetch t page next) go f h = and-i _ _ refl (h next)
+
+  sized-walk : (f at : ℕ) → sized bound (walk (readSchedule bound s) (entriesIn s) f at .held) ≡ true
+  sized-walk zero at = refl
+  sized-walk (suc f) at = sized-onward at (readSchedule bound s at) (walk (readSchedule bound s) (entriesIn s) f) (schedule-facts bound s at) (sized-walk f)
+
+  sized-read : (at : ℕ) → sized bound (entriesFrom bound s at .held) ≡ true
+  unfolding entriesFrom
+  sized-read at = sized-walk (suc (length s)) at
+
+writable : (a : ℕ) (es : List Entry) → a ≤ 256 → sized a es ≡ true → AllWritable a es
+writable a [] h z = tt
+writable a (ev t pages ∷ es) h z =
+    let w = and-l (sizedEntry a (ev t pages)) _ z in
+    let low = and-l (leb 1 (length pages)) _ w in
+    let high = and-r (leb 1 (length pages)) _ w in
+    ((omega tests, (omega tests, omega tests)), writable a es h (and-r (sizedEntry a (ev t pages)) _ z))
+writable a (pf t page ∷ es) h z = (tt, writable a es h (and-r (sizedEntry a (pf t page)) _ z))
+
+-- Where a cost can come from
+
+behind-ka : (x : reading.Answer) (go : ℕ → ℕ → ℕ → Answer) (c : ℕ) → behindKa x go ≡ cost c
+    → (k a next : ℕ) × (x ≡ reading.sizes k a next) × (go k a next ≡ cost c)
+behind-ka (reading.refused n) go c e = absurd (no-cost e)
+behind-ka (reading.sizes k a next) go c e = (k, a, next, refl, e)
+behind-ka reading.ended go c e = absurd (no-cost e)
+behind-ka (reading.request page next) go c e = absurd (no-cost e)
+behind-ka (reading.bundle t n from next) go c e = absurd (no-cost e)
+behind-ka (reading.fetch t page next) go c e = absurd (no-cost e)
+
+behind-requests : (file : File ℕ) (go : List ℕ → Answer) (c : ℕ) → behindRequests file go ≡ cost c
+    → (length (file .held) ≤ 65536) × (file .damage ≡ 0) × (go (file .held) ≡ cost c)
+behind-requests file go c e =
+    cases (ltb longest (length (file .held)))
+    (λ m. let w : refused 3 ≡ cost c = rw m at e in absurd (no-cost w))
+    (λ m. cases (eqb (file .damage) 0)
+    (λ d. (omega tests, omega tests, rw (m, d) at e))
+    (λ d. let w : refused (file .damage) ≡ cost c = rw (m, d) at e in absurd (no-cost w)))
+
+in-range : (k a : ℕ) → sizesRefusal k a 0 ≡ 0 → (0 < k) × (k ≤ 256) × (0 < a) × (a ≤ k)
+unfolding sizesRefusal
+in-range k a e =
+    cases (eqb k 0 or ltb 256 k)
+    (λ m. let z : 1 ≡ 0 = rw m at e in absurd (omega arith))
+    (λ m. cases (eqb a 0 or ltb k a)
+    (λ d. let z : 2 ≡ 0 = rw (m, d) at e in absurd (omega arith))
+    (λ d.
+    let k0 = or-none-l (eqb k 0) (ltb 256 k) m in
+    let k1 = or-none-r (eqb k 0) (ltb 256 k) m in
+    let a0 = or-none-l (eqb a 0) (ltb k a) d in
+    let a1 = or-none-r (eqb a 0) (ltb k a) d in
+    (omega tests, omega tests, omega tests, omega tests)))
+
+-- The two halves
+
+-- a schedule that costs something to a trace
+record Costs (k a : ℕ) (pages schedule : List ℕ) (c : ℕ) : Type 0 where
+  entries : List Entry
+  bytes : schedule ≡ scheduleBytes k a entries
+  serving : serves k a pages entries ≡ true
+  costing : c ≡ entriesCost entries
+
+module _ (k a : ℕ) (pages schedule : List ℕ) (c : ℕ) where
+  own-ka : (k′ a′ next : ℕ) → Bytes schedule → readSchedule a schedule 0 ≡ reading.sizes k′ a′ next → k′ ≡ k → a′ ≡ a
+      → judgedFrom k (entriesFrom a schedule next .damage) (entriesFrom a schedule next .held) (standsFirst pages) ≡ cost c → Costs k a pages schedule c
+  own-ka k′ a′ next bs r ek ea e =
+      let whole = no-damage k (entriesFrom a schedule next .damage) c (entriesFrom a schedule next .held) (standsFirst pages) e in
+      let same = entries-sizes a schedule 0 k′ a′ next r in
+      let undamaged : entriesFrom a schedule 0 .damage ≡ 0 = ap (λ (f : File Entry). f .damage) same ∙ whole in
+      let bytes = schedule-exact a schedule bs k′ a′ next r undamaged in
+      let d = exact k a pages (entriesFrom a schedule next .held) c .0 (sized-read a schedule next, rw whole at e) in
+      record { entries = entriesFrom a schedule next .held; bytes = rw (same, ek, ea) at bytes; serving = d .0; costing = d .1 }
+
+  schedule-sound : Bytes schedule → scheduleJudged k a pages schedule ≡ cost c → Costs k a pages schedule c
+  schedule-sound bs e =
+      let x = behind-ka (readSchedule a schedule 0) _ c e in
+      let k′ = x .0 in
+      let a′ = x .1 in
+      let next = x .2 in
+      let w = x .4 in
+      cases (eqb k′ k and eqb a′ a)
+      (λ m.
+      let mk = and-l (eqb k′ k) (eqb a′ a) m in
+      let ma = and-r (eqb k′ k) (eqb a′ a) m in
+      own-ka k′ a′ next bs (x .3) (omega tests) (omega tests) (rw m at w))
+      (λ m. let z : refused 6 ≡ cost c = rw m at w in absurd (no-cost z))
+
+  schedule-complete : (es : List Entry) → 0 < k → k ≤ 256 → 0 < a → a ≤ k → schedule ≡ scheduleBytes k a es → serves k a pages es ≡ true → c ≡ entriesCost es
+      → scheduleJudged k a pages schedule ≡ cost c
+  unfolding _and_
+  schedule-complete es k0 k1 a0 a1 b l w =
+      let d = exact k a pages es c .1 (l, w) in
+      let r = schedule-reads-back a k a es k0 k1 a0 a1 (writable a es (omega arith) (d .0)) in
+      let first : readSchedule a schedule 0 ≡ reading.sizes k a 6 = rw b (r .0) in
+      let rest : entriesFrom a schedule 6 ≡ record { held = es; damage = 0 } = sym (entries-sizes a schedule 0 k a 6 first) ∙ rw b (r .1) in
+      rw (first, eq-eqb k k refl, eq-eqb a a refl, rest) (d .1)
+
+module _ (trace schedule : List ℕ) (c : ℕ) where
+  pub sound : Bytes trace → Bytes schedule → judged trace schedule ≡ cost c → LegalFiles trace schedule c
+  unfolding judged
+  sound bt bs e =
+      let x = behind-ka (readTrace trace 0) _ c e in
+      let k = x .0 in
+      let a = x .1 in
+      let next = x .2 in
+      let y = behind-requests (requestsFrom trace next) (λ pages. scheduleJudged k a pages schedule) c (x .4) in
+      let range = in-range k a (trace-says trace 0 (reading.sizes k a next) (x .3) .right) in
+      let same = requests-sizes trace 0 k a next (x .3) in
+      let undamaged : requestsFrom trace 0 .damage ≡ 0 = ap (λ (f : File ℕ). f .damage) same ∙ y .1 in
+      let bytes = trace-exact trace bt k a next (x .3) undamaged in
+      let d = schedule-sound k a (requestsFrom trace next .held) schedule c bs (y .2) in
+      record {
+        k = k;
+        a = a;
+        pages = requestsFrom trace next .held;
+        entries = d .entries;
+        k-some = range .0;
+        k-most = range .1;
+        a-some = range .2;
+        a-most = range .3;
+        few = y .0;
+        trace-is = rw same at bytes;
+        schedule-is = d .bytes;
+        legal = d .serving;
+        costs = d .costing;
+      }
+
+  pub complete : LegalFiles trace schedule c → judged trace schedule ≡ cost c
+  unfolding judged
+  complete f =
+      let k = f .k in
+      let a = f .a in
+      let r = trace-reads-back k a (f .pages) (f .k-some) (f .k-most) (f .a-some) (f .a-most) in
+      let first : readTrace trace 0 ≡ reading.sizes k a 6 = rw (f .trace-is) (r .0) in
+      let rest : requestsFrom trace 6 ≡ record { held = f .pages; damage = 0 } = sym (requests-sizes trace 0 k a 6 first) ∙ rw (f .trace-is) (r .1) in
+      let few : ltb longest (length (f .pages)) ≡ false = le-ltb 65536 (length (f .pages)) (f .few) in
+      let j = schedule-complete k a (f .pages) schedule c (f .entries) (f .k-some) (f .k-most) (f .a-some) (f .a-most) (f .schedule-is) (f .legal) (f .costs) in
+      rw (first, rest, few) j
+
+  -- the judge answers the cost c exactly if the files are a trace and a legal schedule of it that costs c
+  pub judge-exact : Bytes trace → Bytes schedule → (judged trace schedule ≡ cost c) ↔ LegalFiles trace schedule c
+  judge-exact bt bs = (sound bt bs, complete)

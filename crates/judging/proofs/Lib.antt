@@ -1,0 +1,4 @@
+pub mod Exact
+pub mod ExactFiles
+pub mod Order
+pub mod Examples

@@ -1,0 +1,4 @@
+pub mod Answer
+pub mod Judging
+pub mod Files
+pub mod LegalFiles

@@ -1,0 +1,5 @@
+pub mod Reading
+pub mod Facts
+pub mod Walk
+pub mod RoundTrip
+pub mod Exact

@@ -1,0 +1,20 @@
+-- `records::read::mark_at` meets its contract: fewer than two bytes are 5, else the mark decides.
+use mathlib.Core.Path.{_∙_, ap}
+use borrow.Author.Needs.{needs}
+use Rattle.records.specs.Marks.{markOf}
+use Rattle.reading.proofs.Reading.{mark-cut, mark-read}
+use Rattle.reading.proofs.mark_at.Statement.{statement}
+use Rattle.reading.proofs.mark_at.Tie as tie
+
+returns : tie.Need-returns
+returns c =
+    let a = c .before .before .args in
+    mark-cut (a .s .now) (a .at) (c .if1 .taken)
+
+returns-2 : tie.Need-returns-2
+returns-2 c =
+    let a = c .before .before .before .before .args in
+    mark-read (a .s .now) (a .at) (c .before .before .if1 .left) (c .of-mark .ensures ∙ ap markOf (c .before .read16 .ensures))
+
+pub mark-at-spec : {M : Type 1} → statement M
+mark-at-spec = tie.close (tie.spec (λ c. search needs) returns (λ c κs. search needs) (λ c κs. search needs) returns-2)

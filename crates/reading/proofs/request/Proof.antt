@@ -1,0 +1,61 @@
+-- `records::read::request` meets its contract: by the mark's kind, each arm is one clause of `rqRead`.
+use mathlib.Core.Path.{_≡_, _∙_, sym, ap}
+use lib.ListN.{drop}
+use borrow.Author.Needs.{needs}
+use Rattle.records.specs.Answers.{kindMark}
+use Rattle.records.specs.Marks.{KA, RQ, EV, PF, markAt}
+use Rattle.reading.specs.Reading.{rqRead}
+use Rattle.reading.proofs.request.Statement.{statement}
+use Rattle.reading.proofs.request.Tie as tie
+
+returns : tie.Need-returns
+unfolding rqRead
+returns c =
+    let a = c .before .before .before .before .before .args in
+    let e : markAt (drop (a .at) (a .s .now)) ≡ RQ = sym (c .before .before .before .mark-at .ensures) ∙ ap kindMark (c .before .enum-told .given .1)
+    in
+    rw e (c .page .ensures)
+
+returns-2 : tie.Need-returns-2
+unfolding rqRead
+returns-2 c =
+    let a = c .before .before .before .before .args in
+    let e : markAt (drop (a .at) (a .s .now)) ≡ KA = sym (c .before .before .mark-at .ensures) ∙ ap kindMark (c .enum-told2 .given .1) in
+    rw e
+
+returns-3 : tie.Need-returns-3
+unfolding rqRead
+returns-3 c =
+    let a = c .before .before .before .before .args in
+    let e : markAt (drop (a .at) (a .s .now)) ≡ EV = sym (c .before .before .mark-at .ensures) ∙ ap kindMark (c .enum-told3 .given .1) in
+    rw e
+
+returns-4 : tie.Need-returns-4
+unfolding rqRead
+returns-4 c =
+    let a = c .before .before .before .before .args in
+    let e : markAt (drop (a .at) (a .s .now)) ≡ PF = sym (c .before .before .mark-at .ensures) ∙ ap kindMark (c .enum-told4 .given .1) in
+    rw e
+
+returns-5 : tie.Need-returns-5
+unfolding rqRead
+returns-5 c =
+    let e = sym (c .before .before .before .mark-at .ensures) ∙ ap kindMark (c .before .kind .given .1) in
+    rw e
+
+pub request-spec : {M : Type 1} → statement M
+request-spec =
+    tie.close
+    (tie.spec
+    (λ c κs. search needs)
+    (λ c. search needs)
+    (λ c κs. search needs)
+    (λ c. search needs)
+    (λ c. search needs)
+    (λ c. search needs)
+    (λ c. search needs)
+    returns
+    returns-2
+    returns-3
+    returns-4
+    returns-5)

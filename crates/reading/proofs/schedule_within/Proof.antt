@@ -1,0 +1,49 @@
+-- `records::read::schedule_within` meets its contract: the offset is past the end, at the start, at the end, or before an entry.
+use mathlib.Core.Path.{_∙_, sym, ap}
+use borrow.Author.Needs.{needs}
+use Rattle.reading.specs.Answers.{startAnswer}
+use Rattle.reading.proofs.Reading.{schedule-past, schedule-first, schedule-last, schedule-later}
+use Rattle.reading.proofs.schedule_within.Statement.{statement}
+use Rattle.reading.proofs.schedule_within.Tie as tie
+
+returns : tie.Need-returns
+returns c =
+    let a = c .before .before .args in
+    schedule-past (a .bound) (a .s .now) (a .at) (c .if1 .taken)
+
+returns-2 : tie.Need-returns-2
+returns-2 c =
+    let a = c .before .before .before .before .before .before .before .args in
+    schedule-first (a .bound) (a .s .now) (a .at) (c .before .before .before .before .if2 .taken)
+    (sym (ap startAnswer (c .before .first .given .1)) ∙ c .before .before .before .ka .ensures)
+
+returns-3 : tie.Need-returns-3
+returns-3 c =
+    let a = c .before .before .before .before .before .before .before .args in
+    schedule-first (a .bound) (a .s .now) (a .at) (c .before .before .before .before .if2 .taken)
+    (sym (ap startAnswer (c .before .first2 .given .1)) ∙ c .before .before .before .ka .ensures)
+
+returns-4 : tie.Need-returns-4
+returns-4 c =
+    let a = c .before .before .before .before .args in
+    schedule-last (a .bound) (a .s .now) (a .at) (c .before .before .if1 .left) (c .before .if2 .left) (c .if3 .taken)
+
+returns-5 : tie.Need-returns-5
+returns-5 c =
+    let a = c .before .before .before .before .before .args in
+    schedule-later (a .bound) (a .s .now) (a .at) (c .before .before .before .if1 .left) (c .before .before .if2 .left) (c .before .if3 .left)
+    (c .entry .ensures)
+
+pub schedule-within-spec : {M : Type 1} → statement M
+schedule-within-spec =
+    tie.close
+    (tie.spec
+    returns
+    (λ c κs. search needs)
+    (λ c. search needs)
+    (λ c. search needs)
+    returns-2
+    returns-3
+    returns-4
+    (λ c κs. search needs)
+    returns-5)

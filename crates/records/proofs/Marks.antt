@@ -1,0 +1,9 @@
+-- A mark that is none of the known ones.
+use Prim.Native.Nat.{ℕ, _-_}
+use mathlib.Core.Path.{_≡_}
+use borrow.Author.Tests.{ne-eqb}
+use Rattle.records.specs.Marks.{bad, markOf, markKA, markRQ, markEV, markPF}
+
+pub mark-other : (m : ℕ) → (m ≡ markKA → ⊥) → (m ≡ markRQ → ⊥) → (m ≡ markEV → ⊥) → (m ≡ markPF → ⊥) → bad 4 ≡ markOf m
+unfolding markOf
+mark-other m ka rq ev pf = rw (ne-eqb m markKA ka, ne-eqb m markRQ rq, ne-eqb m markEV ev, ne-eqb m markPF pf)

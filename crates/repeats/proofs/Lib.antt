@@ -1,0 +1,3 @@
+pub mod ChainLaws
+pub mod BitLaws
+pub mod FreshLaws

@@ -1,0 +1,12 @@
+use borrow.Author.Needs.{needs}
+use Rattle.repeats.proofs.BitLaws.{set-is}
+use Rattle.repeats.proofs.bits.is_set.Statement.{statement}
+use Rattle.repeats.proofs.bits.is_set.Tie as tie
+
+returns : tie.Need-returns
+returns c = set-is (c .before .before .before .args .marks .now) (c .before .before .before .args .bit) (c .bit-in-word .result) (c .bit-in-word .ensures)
+
+pub is-set-spec : {M : Type 1} → statement M
+is-set-spec =
+    tie.close
+    (tie.spec (λ c. search needs) (λ c. search needs) (λ c. search needs) (λ c κs. search needs) returns)

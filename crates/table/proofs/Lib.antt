@@ -1,0 +1,3 @@
+pub mod Serving
+pub mod LiftLaws
+pub mod QuickLaws

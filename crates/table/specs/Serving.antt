@@ -1,0 +1,55 @@
+-- What the inner functions of src/table.rt do to the rows: the definitions of the model, in the steps in which the code takes them.
+use Prim.Native.Nat.{ℕ, _≤_}
+use mathlib.Core.Bool.{false}
+use mathlib.Core.List.{List, [], _∷_, _++_, map}
+use mathlib.Core.Path.{_≡_}
+use lib.Dec.{eqb, ltb}
+use lib.ListN.{length}
+use Rattle.lists.specs.Choice.{pick}
+use Rattle.lists.specs.Pages.{filter}
+use Rattle.lists.specs.Sorting.{Row, sortRows}
+use Rattle.paging.specs.Layers.{LayerRule, append, join, lift, renumbered, topAfter}
+use Rattle.paging.specs.Rows.{rowAt, tableOf}
+use Rattle.paging.specs.Table.{aboveZero, ruleIn, rowsAfter}
+use Rattle.table.specs.declared.Change.{Change}
+use Rattle.table.specs.declared.Stepped.{Stepped}
+use Rattle.table.specs.declared.RuleApplied.{RuleApplied}
+use Rattle.table.specs.declared.RuleApplied.the-variants.{Append, Join, Lift}
+
+-- the rule of Figure 1 that each case of the code's enum stands for
+abbrev pub ruleOf : RuleApplied → LayerRule
+ruleOf Append = append
+ruleOf Join = join
+ruleOf Lift = lift
+
+-- sizes that were judged, and an s that they allow
+pub record Sound (k a s : ℕ) : Type 0 where
+  pub a-low : 1 ≤ a
+  pub a-high : a ≤ k
+  pub k-high : k ≤ 256
+  pub s-high : s ≤ k
+
+-- a row's number after a request; the requested page's rows go
+abbrev pub numberAfter : Change → (number page : ℕ) → ℕ
+numberAfter change number page =
+    pick (eqb page (change .page)) 0 (renumbered (ruleOf (change .rule)) (change .k) (change .a) (change .i) number)
+
+abbrev pub rowMoved : Change → Row → Row
+rowMoved change row = record { number = numberAfter change (row .number) (row .page); page = row .page }
+
+-- the rows that stay, renumbered, in their order
+abbrev pub moved : Change → List Row → List Row
+moved change rows = filter aboveZero (map (rowMoved change) rows)
+
+-- the rows after the request: those that stay in order, and the requested page last
+abbrev pub served : Change → (s : ℕ) → List Row → List Row
+served change s rows =
+    sortRows (moved change rows) ++ (rowAt (topAfter (ruleOf (change .rule)) (change .k) (change .a) s) (change .page) ∷ [])
+
+-- what a step answers, and the rows that it leaves. A table with too few places is left as it was
+pub record SteppedTo (k a s p places : ℕ) (before after : List Row) (r : Stepped) : Type 0 where
+  pub full-told : r .full ≡ ltb places (length (rowsAfter k a s p before))
+  pub rule-told : ruleOf (r .rule) ≡ ruleIn k s p before
+  pub top-told : r .s ≡ pick (r .full) 0 (topAfter (ruleIn k s p before) k a s)
+  pub rows-told : after ≡ pick (r .full) before (tableOf places (rowsAfter k a s p before))
+  pub used-told : r .full ≡ false → r .used ≡ length (rowsAfter k a s p before)
