@@ -10,7 +10,10 @@ use Rattle.judge.proofs.judge.Statement.{statement}
 use Rattle.judge.proofs.judge.Tie as tie
 
 number-requires : tie.Need-number-requires
-number-requires c κs = let g = c .before .before .before .good in within-range (c .answer .result) (length (c .before .before .before .args .schedule .now)) (c .answer .ensures .1) (omega arith)
+number-requires c κs =
+    let schedule = c .before .before .before .args .schedule .now in
+    let good = c .before .before .before .good in
+    let g = good in within-range (c .answer .result) (length schedule) (c .answer .ensures .1) (omega arith)
 
 returns : tie.Need-returns
 returns c = toZ-ofZ {w = w64} (record { sfits = c .number .ok }) ∙ c .number .ensures ∙ ap answerNumber (c .before .answer .ensures .0)

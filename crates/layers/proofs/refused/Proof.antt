@@ -4,11 +4,9 @@ use Rattle.layers.specs.declared.LayersRun.{LayersRun}
 use Rattle.layers.proofs.refused.Statement.{statement}
 use Rattle.layers.proofs.refused.Tie as tie
 
--- src/lib.rt:102:14
 empty-requires : tie.Need-empty-requires
 empty-requires c κs = search needs
 
--- src/lib.rt:97:1
 returns : tie.Need-returns
 returns c = ap (λ (run : LayersRun). record { refusal = c .before .args .number; run = run }) (c .empty .ensures)
 

@@ -19,10 +19,16 @@ loop-holds : tie.Need-loop-holds Inv-loop μ-loop
 loop-holds c = (c .parts-without .ensures .0, c .parts-without .ensures .1)
 
 returns : tie.Need-returns Inv-loop μ-loop
-returns c = sym (c .before .before .before .loop .inv .1 ∙ place-here _ _ _ (c .before .before .loop-test .taken) (c .if1 .taken))
+returns c =
+    let inv = c .before .before .before .loop .inv in
+    let loop-test = c .before .before .loop-test in
+    sym (inv .1 ∙ place-here _ _ _ (loop-test .taken) (c .if1 .taken))
 
 loop-again : tie.Need-loop-again Inv-loop μ-loop
-loop-again c = (omega arith, c .before .before .before .loop .inv .1 ∙ place-next _ _ _ (c .before .before .loop-test .taken) (c .if1 .left))
+loop-again c =
+    let inv = c .before .before .before .loop .inv in
+    let loop-test = c .before .before .loop-test in
+    (omega arith, inv .1 ∙ place-next _ _ _ (loop-test .taken) (c .if1 .left))
 
 returns-2 : tie.Need-returns-2 Inv-loop μ-loop
 returns-2 c = sym (c .before .loop .inv .1 ∙ place-end _ _ _ (c .loop-test .left))

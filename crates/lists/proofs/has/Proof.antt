@@ -21,14 +21,19 @@ loop-holds c = (omega arith, refl)
 
 loop-again : tie.Need-loop-again Inv-loop μ-loop
 loop-again c =
-    let s = c .before .before .before in
-    let at = c .before .before .loop in
-    (omega arith, has-turn (s .args .page) (at .i) (at .found) (s .args .pages .now) (c .before .loop-test .taken) (at .inv .1))
+    let start = c .before .before .before in
+    let page = start .args .page in
+    let pages = start .args .pages .now in
+    let loop = c .before .before .loop in
+    let at = loop in
+    (omega arith, has-turn page (at .i) (at .found) pages (c .before .loop-test .taken) (at .inv .1))
 
 returns : tie.Need-returns Inv-loop μ-loop
 returns c =
-    let s = c .before .before in
-    c .before .loop .inv .1 ∙ ap (mem (s .args .page)) (take-all (c .before .loop .i) (s .args .pages .now) (omega arith))
+    let start = c .before .before in
+    let page = start .args .page in
+    let pages = start .args .pages .now in
+    c .before .loop .inv .1 ∙ ap (mem page) (take-all (c .before .loop .i) pages (omega arith))
 
 pub has-spec : {M : Type 1} → statement M
 has-spec =

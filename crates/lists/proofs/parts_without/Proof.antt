@@ -21,16 +21,21 @@ loop-holds : tie.Need-loop-holds Inv-loop μ-loop
 loop-holds c = (omega arith, omega arith)
 
 returns : tie.Need-returns Inv-loop μ-loop
-returns c = (omega arith, c .before .before .before .before .loop .inv .1)
+returns c =
+    let inv = c .before .before .before .before .loop .inv in
+    (omega arith, inv .1)
 
 loop-again : tie.Need-loop-again Inv-loop μ-loop
 loop-again c =
-    let s = c .before .before .before .before .before .before in
-    let at = c .before .before .before .before .loop in
+    let start = c .before .before .before .before .before .before in
+    let page = start .args .page in
+    let pages = start .args .pages .now in
+    let loop = c .before .before .before .before .loop in
+    let at = loop in
     let n : at .passed + 32 - at .passed ≡ 32 = omega arith in
-    let e : mem (s .args .page) (take 32 (drop (at .passed) (s .args .pages .now))) ≡ false =
-    ap (λ (x : ℕ). mem (s .args .page) (take x (drop (at .passed) (s .args .pages .now)))) (sym n) ∙ sym (c .before .has .ensures) ∙ c .if1 .left in
-    (omega arith, at .inv .1 ∙ part-passed (s .args .page) (at .passed) 32 (s .args .pages .now) (omega arith) e)
+    let e : mem page (take 32 (drop (at .passed) pages)) ≡ false =
+    ap (λ (x : ℕ). mem page (take x (drop (at .passed) pages))) (sym n) ∙ sym (c .before .has .ensures) ∙ c .if1 .left in
+    (omega arith, at .inv .1 ∙ part-passed page (at .passed) 32 pages (omega arith) e)
 
 returns-2 : tie.Need-returns-2 Inv-loop μ-loop
 returns-2 c = (omega arith, c .before .loop .inv .1)

@@ -7,18 +7,28 @@ use Rattle.lru.proofs.over_trace.Tie as tie
 
 returns : tie.Need-returns
 returns c =
-    let s = c .before .before .before in
-    totals-refused (s .args .k) (s .args .a) (s .args .trace .now) _ (c .before .trace-refusal .ensures) (c .if1 .taken)
+    let start = c .before .before .before in
+    let a = start .args .a in
+    let k = start .args .k in
+    let trace = start .args .trace .now in
+    totals-refused k a trace _ (c .before .trace-refusal .ensures) (c .if1 .taken)
 
 run-over-requires : tie.Need-run-over-requires
 run-over-requires c κs =
-    let s = c .before .before .before in
-    trace-ready (s .args .k) (s .args .a) (s .args .trace .now) (sym (c .before .trace-refusal .ensures) ∙ c .if1 .left)
+    let start = c .before .before .before in
+    let a = start .args .a in
+    let k = start .args .k in
+    let trace = start .args .trace .now in
+    trace-ready k a trace (sym (c .before .trace-refusal .ensures) ∙ c .if1 .left)
 
 returns-2 : tie.Need-returns-2
 returns-2 c =
-    let s = c .before .before .before .before in
-    totals-served (s .args .k) (s .args .a) (s .args .trace .now) _ (sym (c .before .before .trace-refusal .ensures) ∙ c .before .if1 .left) (c .run-over .ensures)
+    let start = c .before .before .before .before in
+    let a = start .args .a in
+    let k = start .args .k in
+    let trace = start .args .trace .now in
+    let trace-refusal = c .before .before .trace-refusal in
+    totals-served k a trace _ (sym (trace-refusal .ensures) ∙ c .before .if1 .left) (c .run-over .ensures)
 
 pub over-trace-spec : {M : Type 1} → statement M
 over-trace-spec = tie.close (tie.spec (λ c κs. search needs) returns run-over-requires returns-2)

@@ -7,18 +7,38 @@ use Rattle.lru.proofs.request.Tie as tie
 
 returns : tie.Need-returns
 returns c =
-    let s = c .before .before .before .before .before .before .before in
-    answer-refused (s .args .run) (s .args .count) (s .args .cache .now) (s .args .evicted .now) (s .args .page) _ _ (c .before .before .refusal .ensures) (c .before .if1 .taken) (c .empty .ensures)
+    let start = c .before .before .before .before .before .before .before in
+    let cache = start .args .cache .now in
+    let count = start .args .count in
+    let evicted = start .args .evicted .now in
+    let page = start .args .page in
+    let run = start .args .run in
+    let refusal = c .before .before .refusal in
+    answer-refused run count cache evicted page _ _ (refusal .ensures) (c .before .if1 .taken) (c .empty .ensures)
 
 step-requires : tie.Need-step-requires
 step-requires c κs =
-    let s = c .before .before .before .before .before .before .before .before in
-    ready-of (s .args .run) (s .args .count) (s .args .cache .now) (s .args .evicted .now) (sym (c .before .before .before .refusal .ensures) ∙ c .before .before .if1 .left)
+    let start = c .before .before .before .before .before .before .before .before in
+    let cache = start .args .cache .now in
+    let count = start .args .count in
+    let evicted = start .args .evicted .now in
+    let run = start .args .run in
+    let refusal = c .before .before .before .refusal in
+    let if1 = c .before .before .if1 in
+    ready-of run count cache evicted (sym (refusal .ensures) ∙ if1 .left)
 
 returns-2 : tie.Need-returns-2
 returns-2 c =
-    let s = c .before .before .before .before .before .before .before .before .before .before .before .before .before in
-    answer-accepted (s .args .run) (s .args .count) (s .args .cache .now) (s .args .evicted .now) (s .args .page) _ _ _ (sym (c .before .before .before .before .before .before .before .before .refusal .ensures) ∙ c .before .before .before .before .before .before .before .if1 .left) (c .before .before .before .before .step .ensures)
+    let start = c .before .before .before .before .before .before .before .before .before .before .before .before .before in
+    let cache = start .args .cache .now in
+    let count = start .args .count in
+    let evicted = start .args .evicted .now in
+    let page = start .args .page in
+    let run = start .args .run in
+    let refusal = c .before .before .before .before .before .before .before .before .refusal in
+    let if1 = c .before .before .before .before .before .before .before .if1 in
+    let step = c .before .before .before .before .step in
+    answer-accepted run count cache evicted page _ _ _ (sym (refusal .ensures) ∙ if1 .left) (step .ensures)
 
 pub request-spec : {M : Type 1} → statement M
 request-spec =

@@ -6,18 +6,29 @@ use Rattle.lru.proofs.trace_refusal.Tie as tie
 
 returns : tie.Need-returns
 returns c =
-    let s = c .before .before .before in
-    trace-sizes (s .args .k) (s .args .a) (s .args .trace .now) _ (c .before .refusal .ensures) (c .if1 .taken)
+    let start = c .before .before .before in
+    let a = start .args .a in
+    let k = start .args .k in
+    let trace = start .args .trace .now in
+    trace-sizes k a trace _ (c .before .refusal .ensures) (c .if1 .taken)
 
 returns-2 : tie.Need-returns-2
 returns-2 c =
-    let s = c .before .before .before .before in
-    trace-long (s .args .k) (s .args .a) (s .args .trace .now) _ (c .before .before .refusal .ensures) (c .before .if1 .left) (c .if2 .taken)
+    let start = c .before .before .before .before in
+    let a = start .args .a in
+    let k = start .args .k in
+    let trace = start .args .trace .now in
+    let refusal = c .before .before .refusal in
+    trace-long k a trace _ (refusal .ensures) (c .before .if1 .left) (c .if2 .taken)
 
 returns-3 : tie.Need-returns-3
 returns-3 c =
-    let s = c .before .before .before .before in
-    trace-none (s .args .k) (s .args .a) (s .args .trace .now) _ (c .before .before .refusal .ensures) (c .before .if1 .left) (c .if2 .left)
+    let start = c .before .before .before .before in
+    let a = start .args .a in
+    let k = start .args .k in
+    let trace = start .args .trace .now in
+    let refusal = c .before .before .refusal in
+    trace-none k a trace _ (refusal .ensures) (c .before .if1 .left) (c .if2 .left)
 
 pub trace-refusal-spec : {M : Type 1} → statement M
 trace-refusal-spec = tie.close (tie.spec (λ c κs. search needs) returns returns-2 returns-3)

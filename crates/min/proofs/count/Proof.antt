@@ -5,13 +5,29 @@ use Rattle.min.proofs.count.Statement.{statement}
 use Rattle.min.proofs.count.Tie as tie
 
 returns : tie.Need-returns
-returns c = rw (sym (c .before .refusal .ensures)) (counts-refused (c .before .refusal .result) (c .before .before .before .args .k) (c .before .before .before .args .a) (c .before .before .before .args .trace .now) (c .if1 .taken))
+returns c =
+    let start = c .before .before .before in
+    let a = start .args .a in
+    let k = start .args .k in
+    let trace = start .args .trace .now in
+    let refusal = c .before .refusal in
+    rw (sym (refusal .ensures)) (counts-refused (refusal .result) k a trace (c .if1 .taken))
 
 counted-requires : tie.Need-counted-requires
-counted-requires c κs = accepted (c .before .before .before .before .args .k) (c .before .before .before .before .args .a) (c .before .before .before .before .args .trace .now) _ (sym (c .before .before .refusal .ensures) ∙ c .before .if1 .left) (search needs)
+counted-requires c κs =
+    let start = c .before .before .before .before in
+    let a = start .args .a in
+    let k = start .args .k in
+    let trace = start .args .trace .now in
+    let refusal = c .before .before .refusal in
+    accepted k a trace _ (sym (refusal .ensures) ∙ c .before .if1 .left) (search needs)
 
 returns-2 : tie.Need-returns-2
-returns-2 c = rw (sym (c .before .before .before .before .refusal .ensures) ∙ c .before .before .before .if1 .left, c .before .counted .ensures .best, c .before .counted .ensures .loaded)
+returns-2 c =
+    let refusal = c .before .before .before .before .refusal in
+    let if1 = c .before .before .before .if1 in
+    let counted = c .before .counted in
+    rw (sym (refusal .ensures) ∙ if1 .left, counted .ensures .best, counted .ensures .loaded)
 
 pub count-spec : {M : Type 1} → statement M
 count-spec =

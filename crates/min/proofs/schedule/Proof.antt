@@ -5,13 +5,36 @@ use Rattle.min.proofs.schedule.Statement.{statement}
 use Rattle.min.proofs.schedule.Tie as tie
 
 returns : tie.Need-returns
-returns c = schedule-refused (c .before .before .before .before .args .k) (c .before .before .before .before .args .a) (c .before .refusal .result) (c .before .before .before .before .args .trace .now) (c .before .before .before .before .args .out .now) (c .before .refusal .ensures) (c .if1 .taken)
+returns c =
+    let start = c .before .before .before .before in
+    let a = start .args .a in
+    let k = start .args .k in
+    let out = start .args .out .now in
+    let trace = start .args .trace .now in
+    let refusal = c .before .refusal in
+    schedule-refused k a (refusal .result) trace out (refusal .ensures) (c .if1 .taken)
 
 scheduled-requires : tie.Need-scheduled-requires
-scheduled-requires c κs = accepted (c .before .before .before .before .before .before .args .k) (c .before .before .before .before .before .before .args .a) (c .before .before .before .before .before .before .args .trace .now) _ (sym (c .before .before .before .refusal .ensures) ∙ c .before .before .if1 .left) (search needs)
+scheduled-requires c κs =
+    let start = c .before .before .before .before .before .before in
+    let a = start .args .a in
+    let k = start .args .k in
+    let trace = start .args .trace .now in
+    let refusal = c .before .before .before .refusal in
+    let if1 = c .before .before .if1 in
+    accepted k a trace _ (sym (refusal .ensures) ∙ if1 .left) (search needs)
 
 returns-2 : tie.Need-returns-2
-returns-2 c = schedule-passes (c .before .before .before .before .before .before .before .before .before .before .args .k) (c .before .before .before .before .before .before .before .before .before .before .args .a) (c .before .before .before .before .before .before .before .refusal .result) (c .before .before .before .before .before .before .before .before .before .before .args .trace .now) (c .before .before .before .before .before .before .before .before .before .before .args .out .now) (c .before .before .before .scheduled .last .1 .1 .1 .1 .0) (c .before .before .before .scheduled .result) (c .before .before .before .before .before .before .before .refusal .ensures) (c .before .before .before .before .before .before .if1 .left) (c .before .before .before .scheduled .ensures)
+returns-2 c =
+    let start = c .before .before .before .before .before .before .before .before .before .before in
+    let a = start .args .a in
+    let k = start .args .k in
+    let out = start .args .out .now in
+    let trace = start .args .trace .now in
+    let refusal = c .before .before .before .before .before .before .before .refusal in
+    let if1 = c .before .before .before .before .before .before .if1 in
+    let scheduled = c .before .before .before .scheduled in
+    schedule-passes k a (refusal .result) trace out (scheduled .last .1 .1 .1 .1 .0) (scheduled .result) (refusal .ensures) (if1 .left) (scheduled .ensures)
 
 pub schedule-spec : {M : Type 1} → statement M
 schedule-spec =

@@ -19,12 +19,24 @@ loop-holds c = (omega arith, (refl, (refl, chain-starts (c .args .trace .now) (c
 
 loop-again : tie.Need-loop-again Inv-loop μ-loop
 loop-again c =
-    let p = c .before .before .before .before .pre in
-    (omega arith, (simp length-set (omega arith), (simp length-set (omega arith), chain-turn (c .before .before .before .loop .t) (c .before .before .before .before .args .trace .now) (c .before .before .before .loop .heads) (c .before .before .before .loop .before) (omega (arith, p .halves)) (omega (arith, p .places, p .short)) (c .before .before .before .loop .inv .1 .1 .1))))
+    let start = c .before .before .before .before in
+    let trace = start .args .trace .now in
+    let pre = start .pre in
+    let before = c .before .before .before .loop .before in
+    let heads = c .before .before .before .loop .heads in
+    let inv = c .before .before .before .loop .inv in
+    let t = c .before .before .before .loop .t in (
+      omega arith,
+      (
+        simp length-set (omega arith),
+        (simp length-set (omega arith), chain-turn t trace heads before (omega (arith, pre .halves)) (omega (arith, pre .places, pre .short)) (inv .1 .1 .1)),
+      ),
+    )
 
 returns : tie.Need-returns Inv-loop μ-loop
 returns c =
-    let e : c .before .loop .t ≡ length (c .before .before .args .trace .now) = omega arith in
+    let trace = c .before .before .args .trace .now in
+    let e : c .before .loop .t ≡ length trace = omega arith in
     rw (← e) (c .before .loop .inv .1 .1 .1)
 
 pub chain-spec : {M : Type 1} → statement M

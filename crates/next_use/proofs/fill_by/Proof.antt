@@ -16,27 +16,67 @@ abbrev μ-loop : tie.MeasureT-loop
 
 chain-requires : tie.Need-chain-requires Inv-loop μ-loop
 chain-requires c κs =
-    let p = c .before .before .before .before .before .before .before .before .before .before .before .before .before .before .before .pre in
-    record { short = p .short; halves = c .before .before .before .before .before .before .before .before .fill-zero .kept .0 ∙ p .halves; places = p .places; clear = cleared (c .before .before .before .before .before .before .before .before .before .before .before .before .before .before .before .args .heads .now) (c .before .before .before .before .before .before .before .before .fill-zero .last .0) (c .before .before .before .before .before .before .before .before .fill-zero .ensures) }
+    let start = c .before .before .before .before .before .before .before .before .before .before .before .before .before .before .before in
+    let heads = start .args .heads .now in
+    let pre = start .pre in
+    let fill-zero = c .before .before .before .before .before .before .before .before .fill-zero in
+    record { short = pre .short; halves = fill-zero .kept .0 ∙ pre .halves; places = pre .places; clear = cleared heads (fill-zero .last .0) (fill-zero .ensures) }
 
 loop-holds : tie.Need-loop-holds Inv-loop μ-loop
 loop-holds c =
-    let p = c .before .before .before .before .before .before .before .before .before .before .before .before .before .before .before .before .before .before .before .before .pre in
-    (omega arith, (refl, (refl, fill-starts (c .before .before .before .before .before .before .before .before .before .before .before .before .before .before .before .before .before .before .before .before .args .trace .now) (c .before .before .before .before .before .before .before .before .before .fill-zero2 .last .0) (c .before .before .before .before .before .before .before .before .before .before .before .before .before .before .before .before .before .before .before .before .args .lefts .now) (cleared (c .before .before .before .before .before .before .before .before .before .before .before .before .before .before .before .before .before .before .before .before .args .seen .now) (c .before .before .before .before .before .before .before .before .before .fill-zero2 .last .0) (c .before .before .before .before .before .before .before .before .before .fill-zero2 .ensures)))))
+    let start = c .before .before .before .before .before .before .before .before .before .before .before .before .before .before .before .before .before .before .before
+    .before in
+    let lefts = start .args .lefts .now in
+    let seen = start .args .seen .now in
+    let trace = start .args .trace .now in
+    let fill-zero2 = c .before .before .before .before .before .before .before .before .before .fill-zero2 in
+    (omega arith, (refl, (refl, fill-starts trace (fill-zero2 .last .0) lefts (cleared seen (fill-zero2 .last .0) (fill-zero2 .ensures)))))
 
 walk-requires : tie.Need-walk-requires Inv-loop μ-loop
 walk-requires c κs =
-    let p = c .before .before .before .before .before .before .before .before .before .before .before .before .before .before .before .before .before .before .before .before .before .before .before .before .before .before .pre in
-    let r : length (c .before .before .before .before .before .before .before .before .before .before .before .before .before .before .before .before .before .before .before .before .before .before .before .before .before .before .args .trace .now) ≤ length (c .before .before .before .before .before .loop .lefts) = omega (arith, p .room, c .before .before .before .before .before .loop .inv .1 .0) in
-    record { short = p .short; half = c .before .before .before .before .loop-test .taken; halves = c .before .before .before .before .before .before .before .before .before .before .chain .kept .1 .0 ∙ c .before .before .before .before .before .before .before .before .before .before .before .before .before .before .before .before .before .before .before .fill-zero .kept .0 ∙ p .halves; places = c .before .before .before .before .before .before .before .before .before .before .chain .kept .1 .1 .0 ∙ p .places; table = c .before .before .before .before .before .loop .inv .1 .1 .0 ∙ c .before .before .before .before .before .before .before .before .before .before .before .before .before .before .before .fill-zero2 .kept .0 ∙ p .table; room = r; chained = c .before .before .before .before .before .before .before .before .before .before .chain .ensures; filled = c .before .before .before .before .before .loop .inv .1 .1 .1 }
+    let start = c .before .before .before .before .before .before .before .before .before .before .before .before .before .before .before .before .before .before .before
+    .before .before .before .before .before .before .before in
+    let trace = start .args .trace .now in
+    let pre = start .pre in
+    let fill-zero = c .before .before .before .before .before .before .before .before .before .before .before .before .before .before .before .before .before .before
+    .before .fill-zero in
+    let fill-zero2 = c .before .before .before .before .before .before .before .before .before .before .before .before .before .before .before .fill-zero2 in
+    let chain = c .before .before .before .before .before .before .before .before .before .before .chain in
+    let inv = c .before .before .before .before .before .loop .inv in
+    let lefts = c .before .before .before .before .before .loop .lefts in
+    let loop-test = c .before .before .before .before .loop-test in
+    let r : length trace ≤ length lefts = omega (arith, pre .room, inv .1 .0) in
+    record {
+      short = pre .short;
+      half = loop-test .taken;
+      halves = chain .kept .1 .0
+          ∙ fill-zero .kept .0
+          ∙ pre .halves;
+      places = chain .kept .1 .1 .0
+          ∙ pre .places;
+      table = inv .1 .1 .0
+          ∙ fill-zero2 .kept .0
+          ∙ pre .table;
+      room = r;
+      chained = chain .ensures;
+      filled = inv .1 .1 .1;
+    }
 
 loop-again : tie.Need-loop-again Inv-loop μ-loop
-loop-again c = (omega arith, (c .before .before .before .before .walk .kept .1 .1 .1 .1 .1 .0 ∙ c .before .before .before .before .before .before .before .before .before .before .loop .inv .1 .0, (c .before .before .before .before .walk .kept .1 .1 .1 .1 .0 ∙ c .before .before .before .before .before .before .before .before .before .before .loop .inv .1 .1 .0, c .before .before .before .before .walk .ensures)))
+loop-again c =
+    let inv = c .before .before .before .before .before .before .before .before .before .before .loop .inv in
+    let walk = c .before .before .before .before .walk in
+    (omega arith, (walk .kept .1 .1 .1 .1 .1 .0 ∙ inv .1 .0, (walk .kept .1 .1 .1 .1 .0 ∙ inv .1 .1 .0, walk .ensures)))
 
 returns : tie.Need-returns Inv-loop μ-loop
 returns c =
+    let start = c .before .before .before .before .before .before .before .before .before .before .before .before .before .before .before .before .before .before .before
+    .before .before .before in
+    let trace = start .args .trace .now in
+    let pre = start .pre in
+    let inv = c .before .loop .inv in
     let e : c .before .loop .c ≡ 65536 = omega arith in
-    fill-ends (c .before .before .before .before .before .before .before .before .before .before .before .before .before .before .before .before .before .before .before .before .before .before .args .trace .now) (c .before .loop .seen) (c .before .loop .lefts) (omega (arith, c .before .before .before .before .before .before .before .before .before .before .before .before .before .before .before .before .before .before .before .before .before .before .pre .room, c .before .loop .inv .1 .0)) (rw e at (c .before .loop .inv .1 .1 .1))
+    fill-ends trace (c .before .loop .seen) (c .before .loop .lefts) (omega (arith, pre .room, inv .1 .0)) (rw e at (inv .1 .1 .1))
 
 pub fill-by-spec : {M : Type 1} → statement M
 fill-by-spec =

@@ -9,60 +9,123 @@ use Rattle.next_use.proofs.walk.Statement.{statement}
 use Rattle.next_use.proofs.walk.Tie as tie
 
 abbrev Inv-loop : tie.InvT-loop
-Inv-loop trace heads before c seen₀ lefts₀ s₀ seen lefts s = (length seen ≡ length seen₀) × ((length lefts ≡ length lefts₀) × ((s ≤ length trace) × (((t : ℕ) → s ≡ suc t → low (pageAt trace t) ≡ c) × Walked c s trace seen lefts)))
+Inv-loop trace heads before c seen₀ lefts₀ s₀ seen lefts s = (length seen ≡ length seen₀) ×
+    ((length lefts ≡ length lefts₀) × ((s ≤ length trace) × (((t : ℕ) → s ≡ suc t → low (pageAt trace t) ≡ c) × Walked c s trace seen lefts)))
 
 abbrev μ-loop : tie.MeasureT-loop
 μ-loop trace heads before c seen₀ lefts₀ s₀ seen lefts s = s
 
 shared-slice-read-s : tie.Need-shared-slice-read-s Inv-loop μ-loop
-shared-slice-read-s c = omega (arith, c .before .before .before .before .before .before .pre .half, c .before .before .before .before .before .before .pre .halves)
+shared-slice-read-s c =
+    let pre = c .before .before .before .before .before .before .pre in
+    omega (arith, pre .half, pre .halves)
 
 loop-holds : tie.Need-loop-holds Inv-loop μ-loop
 loop-holds c =
-    let p = c .before .before .before .before .before .before .pre in
-    let trace = c .before .before .before .before .before .before .args .trace .now in
-    let e = p .chained .ends (c .before .before .before .before .before .before .args .c) (p .half) in
-    (refl, (refl, (omega (arith, e, last-le (c .before .before .before .before .before .before .args .c) (length trace) trace), ((λ t h. last-low (c .before .before .before .before .before .before .args .c) (length trace) t trace (sym e ∙ h)), rw e (walk-starts (c .before .before .before .before .before .before .args .c) trace (c .before .before .before .before .before .before .args .seen .now) (c .before .before .before .before .before .before .args .lefts .now) (p .half) (p .filled))))))
+    let start = c .before .before .before .before .before .before in
+    let c₀ = start .args .c in
+    let lefts = start .args .lefts .now in
+    let seen = start .args .seen .now in
+    let trace₀ = start .args .trace .now in
+    let pre = start .pre in
+    let trace = trace₀ in
+    let e = pre .chained .ends c₀ (pre .half) in (
+      refl,
+      (
+        refl,
+        (
+          omega (arith, e, last-le c₀ (length trace) trace),
+          ((λ t h. last-low c₀ (length trace) t trace (sym e ∙ h)), rw e (walk-starts c₀ trace seen lefts (pre .half) (pre .filled))),
+        ),
+      ),
+    )
 
 cast-high : tie.Need-cast-high Inv-loop μ-loop
-cast-high c = omega (arith, c .shared-slice-known5 .given (c .before .before .loop .s - 1))
+cast-high c =
+    let s = c .before .before .loop .s in
+    omega (arith, c .shared-slice-known5 .given (s - 1))
 
 mul-told : tie.Need-mul-told Inv-loop μ-loop
-mul-told c = omega (arith, c .shared-slice-known5 .given (c .before .before .loop .s - 1))
+mul-told c =
+    let s = c .before .before .loop .s in
+    omega (arith, c .shared-slice-known5 .given (s - 1))
 
 slice-read-told : tie.Need-slice-read-told Inv-loop μ-loop
-slice-read-told c = omega (arith, c .before .shared-slice-known5 .given (c .before .before .before .loop .s - 1), c .before .before .before .before .before .before .before .before .before .before .pre .table, c .before .before .before .loop .inv .0)
+slice-read-told c =
+    let pre = c .before .before .before .before .before .before .before .before .before .before .pre in
+    let inv = c .before .before .before .loop .inv in
+    let s = c .before .before .before .loop .s in
+    omega (arith, c .before .shared-slice-known5 .given (s - 1), pre .table, inv .0)
 
 told-requires : tie.Need-told-requires Inv-loop μ-loop
-told-requires c κs = c .before .before .before .loop .inv .1 .1 .1 .1 .near (pageAt (c .before .before .before .before .before .before .before .before .before .before .args .trace .now) (c .before .before .before .loop .s - 1) / 65536) (omega (arith, c .before .shared-slice-known5 .given (c .before .before .before .loop .s - 1)))
+told-requires c κs =
+    let trace = c .before .before .before .before .before .before .before .before .before .before .args .trace .now in
+    let inv = c .before .before .before .loop .inv in
+    let s = c .before .before .before .loop .s in
+    inv .1 .1 .1 .1 .near (pageAt trace (s - 1) / 65536) (omega (arith, c .before .shared-slice-known5 .given (s - 1)))
 
 mul-seen : tie.Need-mul-seen Inv-loop μ-loop
-mul-seen c = omega (arith, c .before .before .shared-slice-known5 .given (c .before .before .before .before .loop .s - 1))
+mul-seen c =
+    let s = c .before .before .before .before .loop .s in
+    let shared-slice-known5 = c .before .before .shared-slice-known5 in
+    omega (arith, shared-slice-known5 .given (s - 1))
 
 slice-write-seen : tie.Need-slice-write-seen Inv-loop μ-loop
-slice-write-seen c = omega (arith, c .before .before .shared-slice-known5 .given (c .before .before .before .before .loop .s - 1), c .before .before .before .before .before .before .before .before .before .before .before .pre .table, c .before .before .before .before .loop .inv .0)
+slice-write-seen c =
+    let pre = c .before .before .before .before .before .before .before .before .before .before .before .pre in
+    let inv = c .before .before .before .before .loop .inv in
+    let s = c .before .before .before .before .loop .s in
+    let shared-slice-known5 = c .before .before .shared-slice-known5 in
+    omega (arith, shared-slice-known5 .given (s - 1), pre .table, inv .0)
 
 loop-less : tie.Need-loop-less Inv-loop μ-loop
 loop-less c =
-    let p = c .before .before .before .before .before .before .before .before .before .before .before .before .pre in
-    let s = c .before .before .before .before .before .loop .s in
-    let b = c .before .before .before .shared-slice-known5 .given (s - 1) in
-    let inv = c .before .before .before .before .before .loop .inv in
-    next (c .before .before .before .before .before .before .before .before .before .before .before .before .args .c) s (c .before .told .result) (c .before .before .before .before .before .before .before .before .before .before .before .before .args .trace .now) (c .before .before .before .before .before .before .before .before .before .before .before .before .args .heads .now) (c .before .before .before .before .before .before .before .before .before .before .before .before .args .before .now) (c .before .before .before .before .before .loop .seen) (c .before .before .before .before .before .loop .lefts) (p .half) (p .chained) (inv .1 .1 .1 .1) (search needs) (inv .1 .1 .0) (inv .1 .1 .1 .0) (omega (arith, b)) (omega (arith, p .room, inv .1 .0)) (omega (arith, p .table, inv .0)) (c .before .told .ensures) .0
+    let start = c .before .before .before .before .before .before .before .before .before .before .before .before in
+    let before = start .args .before .now in
+    let c₀ = start .args .c in
+    let heads = start .args .heads .now in
+    let trace = start .args .trace .now in
+    let pre = start .pre in
+    let inv′ = c .before .before .before .before .before .loop .inv in
+    let lefts = c .before .before .before .before .before .loop .lefts in
+    let s′ = c .before .before .before .before .before .loop .s in
+    let seen = c .before .before .before .before .before .loop .seen in
+    let shared-slice-known5 = c .before .before .before .shared-slice-known5 in
+    let told = c .before .told in
+    let s = s′ in
+    let b = shared-slice-known5 .given (s - 1) in
+    let inv = inv′ in
+    next c₀ s (told .result) trace heads before seen lefts (pre .half) (pre .chained) (inv .1 .1 .1 .1) (search needs) (inv .1 .1 .0) (inv .1 .1 .1 .0) (omega (arith, b))
+    (omega (arith, pre .room, inv .1 .0)) (omega (arith, pre .table, inv .0)) (told .ensures) .0
 
 loop-again : tie.Need-loop-again Inv-loop μ-loop
 loop-again c =
-    let p = c .before .before .before .before .before .before .before .before .before .before .before .before .pre in
-    let s = c .before .before .before .before .before .loop .s in
-    let b = c .before .before .before .shared-slice-known5 .given (s - 1) in
-    let inv = c .before .before .before .before .before .loop .inv in
-    let n = next (c .before .before .before .before .before .before .before .before .before .before .before .before .args .c) s (c .before .told .result) (c .before .before .before .before .before .before .before .before .before .before .before .before .args .trace .now) (c .before .before .before .before .before .before .before .before .before .before .before .before .args .heads .now) (c .before .before .before .before .before .before .before .before .before .before .before .before .args .before .now) (c .before .before .before .before .before .loop .seen) (c .before .before .before .before .before .loop .lefts) (p .half) (p .chained) (inv .1 .1 .1 .1) (search needs) (inv .1 .1 .0) (inv .1 .1 .1 .0) (omega (arith, b)) (omega (arith, p .room, inv .1 .0)) (omega (arith, p .table, inv .0)) (c .before .told .ensures) in
+    let start = c .before .before .before .before .before .before .before .before .before .before .before .before in
+    let before = start .args .before .now in
+    let c₀ = start .args .c in
+    let heads = start .args .heads .now in
+    let trace = start .args .trace .now in
+    let pre = start .pre in
+    let inv′ = c .before .before .before .before .before .loop .inv in
+    let lefts = c .before .before .before .before .before .loop .lefts in
+    let s′ = c .before .before .before .before .before .loop .s in
+    let seen = c .before .before .before .before .before .loop .seen in
+    let shared-slice-known5 = c .before .before .before .shared-slice-known5 in
+    let told = c .before .told in
+    let s = s′ in
+    let b = shared-slice-known5 .given (s - 1) in
+    let inv = inv′ in
+    let n = next c₀ s (told .result) trace heads before seen lefts (pre .half) (pre .chained) (inv .1 .1 .1 .1) (search needs) (inv .1 .1 .0) (inv .1 .1 .1 .0)
+    (omega (arith, b)) (omega (arith, pre .room, inv .1 .0)) (omega (arith, pre .table, inv .0)) (told .ensures) in
     (simp length-set (omega arith), (simp length-set (omega arith), (omega (arith, n .0), (n .1 .0, n .1 .1))))
 
 returns : tie.Need-returns Inv-loop μ-loop
 returns c =
+    let start = c .before .before .before .before .before .before .before .before in
+    let c₀ = start .args .c in
+    let trace = start .args .trace .now in
     let e : c .before .loop .s ≡ 0 = omega arith in
-    walk-ends (c .before .before .before .before .before .before .before .before .args .c) (c .before .before .before .before .before .before .before .before .args .trace .now) (c .before .loop .seen) (c .before .loop .lefts) (rw e at (c .before .loop .inv .1 .1 .1 .1))
+    walk-ends c₀ trace (c .before .loop .seen) (c .before .loop .lefts) (rw e at (c .before .loop .inv .1 .1 .1 .1))
 
 pub walk-spec : {M : Type 1} → statement M
 walk-spec =

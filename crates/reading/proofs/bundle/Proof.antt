@@ -9,46 +9,81 @@ use Rattle.reading.proofs.bundle.Tie as tie
 
 returns : tie.Need-returns
 returns c =
-    let a = c .before .before .args in
-    ev-cut (a .s .now) (a .at) _ (c .if1 .taken)
+    let start = c .before .before in
+    let offset = start .args .at in
+    let s = start .args .s .now in
+    ev-cut s offset _ (c .if1 .taken)
 
 returns-2 : tie.Need-returns-2
 returns-2 c =
-    let a = c .before .before .before .before .args in
-    ev-count (a .s .now) (a .at) (a .bound) _ (c .before .before .if1 .left) (c .before .read16 .ensures) (count-none _ _ (c .if2 .taken))
+    let start = c .before .before .before .before in
+    let offset = start .args .at in
+    let bound = start .args .bound in
+    let s = start .args .s .now in
+    let if1 = c .before .before .if1 in
+    ev-count s offset bound _ (if1 .left) (c .before .read16 .ensures) (count-none _ _ (c .if2 .taken))
 
 returns-3 : tie.Need-returns-3
 returns-3 c =
-    let a = c .before .before .before .before .before .args in
-    ev-count (a .s .now) (a .at) (a .bound) _ (c .before .before .before .if1 .left) (c .before .before .read16 .ensures)
+    let start = c .before .before .before .before .before in
+    let offset = start .args .at in
+    let bound = start .args .bound in
+    let s = start .args .s .now in
+    let if1 = c .before .before .before .if1 in
+    let read16 = c .before .before .read16 in
+    ev-count s offset bound _ (if1 .left) (read16 .ensures)
     (count-above _ _ (c .before .if2 .left) (c .if3 .taken))
 
 returns-4 : tie.Need-returns-4
 returns-4 c =
-    let a = c .before .before .before .before .before .before .args in
-    ev-count (a .s .now) (a .at) (a .bound) _ (c .before .before .before .before .if1 .left) (c .before .before .before .read16 .ensures)
-    (count-far _ _ (c .before .before .if2 .left) (c .before .if3 .left) (c .if4 .taken))
+    let start = c .before .before .before .before .before .before in
+    let offset = start .args .at in
+    let bound = start .args .bound in
+    let s = start .args .s .now in
+    let if1 = c .before .before .before .before .if1 in
+    let read16 = c .before .before .before .read16 in
+    let if2 = c .before .before .if2 in
+    ev-count s offset bound _ (if1 .left) (read16 .ensures)
+    (count-far _ _ (if2 .left) (c .before .if3 .left) (c .if4 .taken))
 
 returns-5 : tie.Need-returns-5
 returns-5 c =
-    let a = c .before .before .before .before .before .before .before .before .args in
-    let e : c .before .ev-length .result ≡ evLength (c .before .before .before .before .before .read16 .result) = c .before .ev-length .ensures ∙
-    entry-is _ (c .before .before .if4 .left) in
-    ev-pages-cut (a .s .now) (a .at) (a .bound) _ (c .before .before .before .before .before .before .if1 .left)
-    (c .before .before .before .before .before .read16 .ensures)
-    (count-fine _ _ (c .before .before .before .before .if2 .left) (c .before .before .before .if3 .left) (c .before .before .if4 .left))
+    let start = c .before .before .before .before .before .before .before .before in
+    let offset = start .args .at in
+    let bound = start .args .bound in
+    let s = start .args .s .now in
+    let if1 = c .before .before .before .before .before .before .if1 in
+    let read16 = c .before .before .before .before .before .read16 in
+    let if2 = c .before .before .before .before .if2 in
+    let if3 = c .before .before .before .if3 in
+    let if4 = c .before .before .if4 in
+    let ev-length = c .before .ev-length in
+    let e : ev-length .result ≡ evLength (read16 .result) = ev-length .ensures ∙
+    entry-is _ (if4 .left) in
+    ev-pages-cut s offset bound _ (if1 .left)
+    (read16 .ensures)
+    (count-fine _ _ (if2 .left) (if3 .left) (if4 .left))
     (rw (← e) (c .if5 .taken))
 
 returns-6 : tie.Need-returns-6
 returns-6 c =
-    let a = c .before .before .before .before .before .before .before .before .before .args in
-    let e : c .before .before .ev-length .result ≡ evLength (c .before .before .before .before .before .before .read16 .result) =
-    c .before .before .ev-length .ensures ∙ entry-is _ (c .before .before .before .if4 .left) in
+    let start = c .before .before .before .before .before .before .before .before .before in
+    let offset = start .args .at in
+    let bound = start .args .bound in
+    let s = start .args .s .now in
+    let if1 = c .before .before .before .before .before .before .before .if1 in
+    let read16 = c .before .before .before .before .before .before .read16 in
+    let if2 = c .before .before .before .before .before .if2 in
+    let if3 = c .before .before .before .before .if3 in
+    let if4 = c .before .before .before .if4 in
+    let ev-length = c .before .before .ev-length in
+    let e : ev-length .result ≡ evLength (read16 .result) =
+    ev-length .ensures ∙ entry-is _ (if4 .left) in
     rw e
-    (ev-taken (a .s .now) (a .at) (a .bound) _ (c .before .before .before .before .before .before .before .if1 .left)
-    (c .before .before .before .before .before .before .read16 .ensures)
-    (count-fine _ _ (c .before .before .before .before .before .if2 .left) (c .before .before .before .before .if3 .left)
-    (c .before .before .before .if4 .left)) (rw (← e) (c .before .if5 .left)) (c .read32 .ensures))
+    (ev-taken s offset bound _ (if1 .left)
+    (read16 .ensures)
+    (count-fine _ _ (if2 .left) (if3 .left)
+    (if4 .left)) (rw (← e) (c .before .if5 .left)) (c .read32 .ensures))
 
 pub bundle-spec : {M : Type 1} → statement M
 bundle-spec =

@@ -11,37 +11,50 @@ use Rattle.reading.proofs.entry.Tie as tie
 returns : tie.Need-returns
 unfolding entryRead
 returns c =
-    let a = c .before .before .before .before .before .args in
-    let e : markAt (drop (a .at) (a .s .now)) ≡ EV = sym (c .before .before .before .mark-at .ensures) ∙ ap kindMark (c .before .enum-told .given .1)
+    let start = c .before .before .before .before .before in
+    let offset = start .args .at in
+    let s = start .args .s .now in
+    let mark-at = c .before .before .before .mark-at in
+    let e : markAt (drop offset s) ≡ EV = sym (mark-at .ensures) ∙ ap kindMark (c .before .enum-told .given .1)
     in
     rw e (c .bundle .ensures)
 
 returns-2 : tie.Need-returns-2
 unfolding entryRead
 returns-2 c =
-    let a = c .before .before .before .before .before .args in
-    let e : markAt (drop (a .at) (a .s .now)) ≡ PF = sym (c .before .before .before .mark-at .ensures) ∙ ap kindMark (c .before .enum-told2 .given .1)
+    let start = c .before .before .before .before .before in
+    let offset = start .args .at in
+    let s = start .args .s .now in
+    let mark-at = c .before .before .before .mark-at in
+    let e : markAt (drop offset s) ≡ PF = sym (mark-at .ensures) ∙ ap kindMark (c .before .enum-told2 .given .1)
     in
     rw e (c .fetch .ensures)
 
 returns-3 : tie.Need-returns-3
 unfolding entryRead
 returns-3 c =
-    let a = c .before .before .before .before .args in
-    let e : markAt (drop (a .at) (a .s .now)) ≡ KA = sym (c .before .before .mark-at .ensures) ∙ ap kindMark (c .enum-told3 .given .1) in
+    let start = c .before .before .before .before in
+    let offset = start .args .at in
+    let s = start .args .s .now in
+    let mark-at = c .before .before .mark-at in
+    let e : markAt (drop offset s) ≡ KA = sym (mark-at .ensures) ∙ ap kindMark (c .enum-told3 .given .1) in
     rw e
 
 returns-4 : tie.Need-returns-4
 unfolding entryRead
 returns-4 c =
-    let a = c .before .before .before .before .args in
-    let e : markAt (drop (a .at) (a .s .now)) ≡ RQ = sym (c .before .before .mark-at .ensures) ∙ ap kindMark (c .enum-told4 .given .1) in
+    let start = c .before .before .before .before in
+    let offset = start .args .at in
+    let s = start .args .s .now in
+    let mark-at = c .before .before .mark-at in
+    let e : markAt (drop offset s) ≡ RQ = sym (mark-at .ensures) ∙ ap kindMark (c .enum-told4 .given .1) in
     rw e
 
 returns-5 : tie.Need-returns-5
 unfolding entryRead
 returns-5 c =
-    let e = sym (c .before .before .before .mark-at .ensures) ∙ ap kindMark (c .before .kind .given .1) in
+    let mark-at = c .before .before .before .mark-at in
+    let e = sym (mark-at .ensures) ∙ ap kindMark (c .before .kind .given .1) in
     rw e
 
 pub entry-spec : {M : Type 1} → statement M

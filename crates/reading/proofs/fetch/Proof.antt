@@ -6,13 +6,18 @@ use Rattle.reading.proofs.fetch.Tie as tie
 
 returns : tie.Need-returns
 returns c =
-    let a = c .before .before .args in
-    pf-cut (a .s .now) (a .at) (c .if1 .taken)
+    let start = c .before .before in
+    let offset = start .args .at in
+    let s = start .args .s .now in
+    pf-cut s offset (c .if1 .taken)
 
 returns-2 : tie.Need-returns-2
 returns-2 c =
-    let a = c .before .before .before .before .args in
-    pf-taken (a .s .now) (a .at) (c .before .before .if1 .left) (c .before .read32 .ensures) (c .read322 .ensures)
+    let start = c .before .before .before .before in
+    let offset = start .args .at in
+    let s = start .args .s .now in
+    let if1 = c .before .before .if1 in
+    pf-taken s offset (if1 .left) (c .before .read32 .ensures) (c .read322 .ensures)
 
 pub fetch-spec : {M : Type 1} → statement M
 fetch-spec =

@@ -10,35 +10,44 @@ use Rattle.reading.proofs.ka.Tie as tie
 returns : tie.Need-returns
 unfolding kaRead
 returns c =
-    let e : markAt (c .before .before .before .before .before .args .s .now) ≡ KA = sym (c .before .before .before .mark-at .ensures) ∙ ap kindMark
+    let s = c .before .before .before .before .before .args .s .now in
+    let mark-at = c .before .before .before .mark-at in
+    let e : markAt s ≡ KA = sym (mark-at .ensures) ∙ ap kindMark
     (c .before .enum-told .given .1) in
     rw e (c .sizes .ensures)
 
 returns-2 : tie.Need-returns-2
 unfolding kaRead
 returns-2 c =
-    let e : markAt (c .before .before .before .before .args .s .now) ≡ RQ = sym (c .before .before .mark-at .ensures) ∙ ap kindMark
+    let s = c .before .before .before .before .args .s .now in
+    let mark-at = c .before .before .mark-at in
+    let e : markAt s ≡ RQ = sym (mark-at .ensures) ∙ ap kindMark
     (c .enum-told2 .given .1) in
     rw e
 
 returns-3 : tie.Need-returns-3
 unfolding kaRead
 returns-3 c =
-    let e : markAt (c .before .before .before .before .args .s .now) ≡ EV = sym (c .before .before .mark-at .ensures) ∙ ap kindMark
+    let s = c .before .before .before .before .args .s .now in
+    let mark-at = c .before .before .mark-at in
+    let e : markAt s ≡ EV = sym (mark-at .ensures) ∙ ap kindMark
     (c .enum-told3 .given .1) in
     rw e
 
 returns-4 : tie.Need-returns-4
 unfolding kaRead
 returns-4 c =
-    let e : markAt (c .before .before .before .before .args .s .now) ≡ PF = sym (c .before .before .mark-at .ensures) ∙ ap kindMark
+    let s = c .before .before .before .before .args .s .now in
+    let mark-at = c .before .before .mark-at in
+    let e : markAt s ≡ PF = sym (mark-at .ensures) ∙ ap kindMark
     (c .enum-told4 .given .1) in
     rw e
 
 returns-5 : tie.Need-returns-5
 unfolding kaRead
 returns-5 c =
-    let e = sym (c .before .before .before .mark-at .ensures) ∙ ap kindMark (c .before .kind .given .1) in
+    let mark-at = c .before .before .before .mark-at in
+    let e = sym (mark-at .ensures) ∙ ap kindMark (c .before .kind .given .1) in
     rw e
 
 pub ka-spec : {M : Type 1} → statement M

@@ -6,18 +6,28 @@ use Rattle.reading.proofs.pages.Tie as tie
 
 returns : tie.Need-returns
 returns c =
-    let a = c .before .before .args in
-    pages-none (a .s .now) (a .from) (a .n) (c .before .if1 .taken)
+    let start = c .before .before in
+    let from = start .args .from in
+    let n = start .args .n in
+    let s = start .args .s .now in
+    pages-none s from n (c .before .if1 .taken)
 
 returns-2 : tie.Need-returns-2
 returns-2 c =
-    let a = c .before .before .before .args in
-    pages-rest (a .s .now) (a .from) (a .n) (c .before .before .if1 .left) (c .before .if2 .taken)
+    let start = c .before .before .before in
+    let from = start .args .from in
+    let n = start .args .n in
+    let s = start .args .s .now in
+    let if1 = c .before .before .if1 in
+    pages-rest s from n (if1 .left) (c .before .if2 .taken)
 
 returns-3 : tie.Need-returns-3
 returns-3 c =
-    let a = c .before .before .before .args in
-    pages-whole (a .s .now) (a .from) (a .n)
+    let start = c .before .before .before in
+    let from = start .args .from in
+    let n = start .args .n in
+    let s = start .args .s .now in
+    pages-whole s from n
 
 pub pages-spec : {M : Type 1} → statement M
 pages-spec =

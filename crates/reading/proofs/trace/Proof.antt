@@ -8,30 +8,47 @@ use Rattle.reading.proofs.trace.Tie as tie
 
 returns : tie.Need-returns
 returns c =
-    let a = c .before .before .args in
-    trace-past (a .s .now) (a .at) (c .if1 .taken)
+    let start = c .before .before in
+    let offset = start .args .at in
+    let s = start .args .s .now in
+    trace-past s offset (c .if1 .taken)
 
 returns-2 : tie.Need-returns-2
 returns-2 c =
-    let a = c .before .before .before .before .before .before .before .args in
-    trace-first (a .s .now) (a .at) (c .before .before .before .before .if2 .taken)
-    (sym (ap startAnswer (c .before .first .given .1)) ∙ c .before .before .before .ka .ensures)
+    let start = c .before .before .before .before .before .before .before in
+    let offset = start .args .at in
+    let s = start .args .s .now in
+    let if2 = c .before .before .before .before .if2 in
+    let ka = c .before .before .before .ka in
+    trace-first s offset (if2 .taken)
+    (sym (ap startAnswer (c .before .first .given .1)) ∙ ka .ensures)
 
 returns-3 : tie.Need-returns-3
 returns-3 c =
-    let a = c .before .before .before .before .before .before .before .args in
-    trace-first (a .s .now) (a .at) (c .before .before .before .before .if2 .taken)
-    (sym (ap startAnswer (c .before .first2 .given .1)) ∙ c .before .before .before .ka .ensures)
+    let start = c .before .before .before .before .before .before .before in
+    let offset = start .args .at in
+    let s = start .args .s .now in
+    let if2 = c .before .before .before .before .if2 in
+    let ka = c .before .before .before .ka in
+    trace-first s offset (if2 .taken)
+    (sym (ap startAnswer (c .before .first2 .given .1)) ∙ ka .ensures)
 
 returns-4 : tie.Need-returns-4
 returns-4 c =
-    let a = c .before .before .before .before .args in
-    trace-last (a .s .now) (a .at) (c .before .before .if1 .left) (c .before .if2 .left) (c .if3 .taken)
+    let start = c .before .before .before .before in
+    let offset = start .args .at in
+    let s = start .args .s .now in
+    let if1 = c .before .before .if1 in
+    trace-last s offset (if1 .left) (c .before .if2 .left) (c .if3 .taken)
 
 returns-5 : tie.Need-returns-5
 returns-5 c =
-    let a = c .before .before .before .before .before .args in
-    trace-later (a .s .now) (a .at) (c .before .before .before .if1 .left) (c .before .before .if2 .left) (c .before .if3 .left) (c .request .ensures)
+    let start = c .before .before .before .before .before in
+    let offset = start .args .at in
+    let s = start .args .s .now in
+    let if1 = c .before .before .before .if1 in
+    let if2 = c .before .before .if2 in
+    trace-later s offset (if1 .left) (if2 .left) (c .before .if3 .left) (c .request .ensures)
 
 pub trace-spec : {M : Type 1} → statement M
 trace-spec =

@@ -3,15 +3,12 @@ use borrow.Author.Tests.{eq-eqb, ne-eqb}
 use Rattle.table.proofs.larger.Statement.{statement}
 use Rattle.table.proofs.larger.Tie as tie
 
--- src/table.rt:24:13
 returns : tie.Need-returns
 returns c = rw (eq-eqb _ _ (c .before .if1 .taken)) (omega arith)
 
--- src/table.rt:26:9
 returns-2 : tie.Need-returns-2
 returns-2 c = rw (eq-eqb _ _ (c .before .if1 .taken)) (omega arith)
 
--- src/table.rt:19:1
 returns-3 : tie.Need-returns-3
 returns-3 c = rw (ne-eqb _ _ (c .if1 .left)) (omega arith)
 

@@ -15,45 +15,27 @@ Inv-loop pages numbers page best₀ i₀ best i = (i ≤ length pages) × (max b
 abbrev μ-loop : tie.MeasureT-loop
 μ-loop pages numbers page best₀ i₀ best i = length pages - i
 
--- src/table.rt:38:5
-loop-holds : tie.Need-loop-holds Inv-loop μ-loop
-loop-holds c = search needs
-
--- src/table.rt:39:29
-mul-larger : tie.Need-mul-larger Inv-loop μ-loop
-mul-larger c = search needs
-
--- src/table.rt:39:29
-shared-slice-read-larger : tie.Need-shared-slice-read-larger Inv-loop μ-loop
-shared-slice-read-larger c = search needs
-
--- src/table.rt:39:41
-mul-larger-2 : tie.Need-mul-larger-2 Inv-loop μ-loop
-mul-larger-2 c = search needs
-
--- src/table.rt:39:41
-shared-slice-read-larger-2 : tie.Need-shared-slice-read-larger-2 Inv-loop μ-loop
-shared-slice-read-larger-2 c = search needs
-
--- src/table.rt:39:9
-larger-requires : tie.Need-larger-requires Inv-loop μ-loop
-larger-requires c κs = search needs
-
--- src/table.rt:40:9
-add-i : tie.Need-add-i Inv-loop μ-loop
-add-i c = search needs
-
--- src/table.rt:38:5
-loop-less : tie.Need-loop-less Inv-loop μ-loop
-loop-less c = search needs
-
--- src/table.rt:38:5
 loop-again : tie.Need-loop-again Inv-loop μ-loop
-loop-again c = (omega arith, number-next (c .before .before .before .before .before .before .before .args .numbers .now) (c .before .before .before .before .before .before .before .args .pages .now) (c .before .before .before .before .before .before .before .args .page) (c .before .before .before .before .loop .i) (c .before .before .before .before .loop .best) _ (c .before .before .before .before .before .before .before .pre) (c .before .before .before .loop-test .taken) (c .larger .ensures) (c .before .before .before .before .loop .inv .1))
+loop-again c =
+    let start = c .before .before .before .before .before .before .before in
+    let numbers = start .args .numbers .now in
+    let page = start .args .page in
+    let pages = start .args .pages .now in
+    let pre = start .pre in
+    let best = c .before .before .before .before .loop .best in
+    let i = c .before .before .before .before .loop .i in
+    let inv = c .before .before .before .before .loop .inv in
+    let loop-test = c .before .before .before .loop-test in
+    (omega arith, number-next numbers pages page i best _ pre (loop-test .taken) (c .larger .ensures) (inv .1))
 
--- src/table.rt:32:1
 returns : tie.Need-returns Inv-loop μ-loop
-returns c = number-end (c .before .before .before .before .args .numbers .now) (c .before .before .before .before .args .pages .now) (c .before .before .before .before .args .page) (c .before .loop .i) _ (c .before .before .before .before .pre) (c .loop-test .left) (c .before .loop .inv .1)
+returns c =
+    let start = c .before .before .before .before in
+    let numbers = start .args .numbers .now in
+    let page = start .args .page in
+    let pages = start .args .pages .now in
+    let pre = start .pre in
+    number-end numbers pages page (c .before .loop .i) _ pre (c .loop-test .left) (c .before .loop .inv .1)
 
 pub largest-in-spec : {M : Type 1} → statement M
 largest-in-spec =
@@ -61,13 +43,13 @@ largest-in-spec =
     (tie.spec
     Inv-loop
     μ-loop
-    loop-holds
-    mul-larger
-    shared-slice-read-larger
-    mul-larger-2
-    shared-slice-read-larger-2
-    larger-requires
-    add-i
-    loop-less
+    (λ c. search needs)
+    (λ c. search needs)
+    (λ c. search needs)
+    (λ c. search needs)
+    (λ c. search needs)
+    (λ c κs. search needs)
+    (λ c. search needs)
+    (λ c. search needs)
     loop-again
     returns)

@@ -9,86 +9,72 @@ use Rattle.table.proofs.Serving.{serve-end}
 use Rattle.table.proofs.serve.Statement.{statement}
 use Rattle.table.proofs.serve.Tie as tie
 
--- src/table.rt:215:9
-renumber-requires : tie.Need-renumber-requires
-renumber-requires c κs = search needs
-
--- src/table.rt:216:10
-slice-relend-prefix-sort : tie.Need-slice-relend-prefix-sort
-slice-relend-prefix-sort c = search needs
-
--- src/table.rt:216:10
 slice-aggregate-sort : tie.Need-slice-aggregate-sort
 slice-aggregate-sort c =
-    let p = c .before .before .before .before .before .renumber .kept .1 .0 in
-    sym (length-take-le (c .before .before .before .before .before .renumber .result) (c .before .before .before .before .before .renumber .last .1 .0) (omega arith))
+    let renumber = c .before .before .before .before .before .renumber in
+    let p = renumber .kept .1 .0 in
+    sym (length-take-le (renumber .result) (renumber .last .1 .0) (omega arith))
 
--- src/table.rt:216:27
-slice-relend-prefix-sort-2 : tie.Need-slice-relend-prefix-sort-2
-slice-relend-prefix-sort-2 c = search needs
-
--- src/table.rt:216:27
 slice-aggregate-sort-2 : tie.Need-slice-aggregate-sort-2
 slice-aggregate-sort-2 c =
-    let q = c .before .before .before .before .before .before .renumber .kept .1 .1 .0 in
-    sym (length-take-le (c .before .before .before .before .before .before .renumber .result) (c .before .before .before .before .before .before .renumber .last .1 .1 .0) (omega arith))
+    let renumber = c .before .before .before .before .before .before .renumber in
+    let q = renumber .kept .1 .1 .0 in
+    sym (length-take-le (renumber .result) (renumber .last .1 .1 .0) (omega arith))
 
--- src/table.rt:216:5
 sort-requires : tie.Need-sort-requires
 sort-requires c κs =
-    let p = c .before .before .before .before .before .before .renumber .kept .1 .0 in
-    let q = c .before .before .before .before .before .before .renumber .kept .1 .1 .0 in
+    let renumber = c .before .before .before .before .before .before .renumber in
+    let p = renumber .kept .1 .0 in
+    let q = renumber .kept .1 .1 .0 in
     simp length-take (omega arith)
 
--- src/table.rt:218:9
-top-after-requires : tie.Need-top-after-requires
-top-after-requires c κs = search needs
-
--- src/table.rt:219:5
-mul-pages : tie.Need-mul-pages
-mul-pages c = search needs
-
--- src/table.rt:219:5
 slice-write-pages : tie.Need-slice-write-pages
 slice-write-pages c =
-    let p = c .before .before .before .before .before .before .before .before .before .before .before .before .renumber .kept .1 .0 in
-    let l = c .before .before .before .before .before .sort .kept .0 in
+    let renumber = c .before .before .before .before .before .before .before .before .before .before .before .before .renumber in
+    let sort = c .before .before .before .before .before .sort in
+    let p = renumber .kept .1 .0 in
+    let l = sort .kept .0 in
     simp (length-append, length-drop) (omega (arith, simp length-take at l))
 
--- src/table.rt:220:5
-mul-numbers : tie.Need-mul-numbers
-mul-numbers c = search needs
-
--- src/table.rt:220:5
 slice-write-numbers : tie.Need-slice-write-numbers
 slice-write-numbers c =
-    let q = c .before .before .before .before .before .before .before .before .before .before .before .before .renumber .kept .1 .1 .0 in
-    let l = c .before .before .before .before .before .sort .kept .1 .0 in
+    let renumber = c .before .before .before .before .before .before .before .before .before .before .before .before .renumber in
+    let sort = c .before .before .before .before .before .sort in
+    let q = renumber .kept .1 .1 .0 in
+    let l = sort .kept .1 .0 in
     simp (length-append, length-drop) (omega (arith, simp length-take at l))
 
--- src/table.rt:208:1
 same-length : tie.Need-same-length
 same-length c =
-    let p = c .before .before .before .before .before .before .before .before .before .before .before .before .renumber .kept .1 .0 in
-    let l = c .before .before .before .before .before .sort .kept .0 in
+    let renumber = c .before .before .before .before .before .before .before .before .before .before .before .before .renumber in
+    let sort = c .before .before .before .before .before .sort in
+    let p = renumber .kept .1 .0 in
+    let l = sort .kept .0 in
     simp (length-set, length-append, length-drop) (omega (arith, simp length-take at l))
 
--- src/table.rt:208:1
 same-length-2 : tie.Need-same-length-2
 same-length-2 c =
-    let q = c .before .before .before .before .before .before .before .before .before .before .before .before .renumber .kept .1 .1 .0 in
-    let l = c .before .before .before .before .before .sort .kept .1 .0 in
+    let renumber = c .before .before .before .before .before .before .before .before .before .before .before .before .renumber in
+    let sort = c .before .before .before .before .before .sort in
+    let q = renumber .kept .1 .1 .0 in
+    let l = sort .kept .1 .0 in
     simp (length-set, length-append, length-drop) (omega (arith, simp length-take at l))
 
--- src/table.rt:208:1
 returns : tie.Need-returns
 returns c =
-    let p = c .before .before .before .before .before .before .before .before .before .before .before .before .renumber .kept .1 .0 in
-    let q = c .before .before .before .before .before .before .before .before .before .before .before .before .renumber .kept .1 .1 .0 in (
+    let start = c .before .before .before .before .before .before .before .before .before .before .before .before .before .before .before .before .before in
+    let change = start .args .change in
+    let numbers = start .args .numbers .now in
+    let pages = start .args .pages .now in
+    let renumber = c .before .before .before .before .before .before .before .before .before .before .before .before .renumber in
+    let sort = c .before .before .before .before .before .sort in
+    let p = renumber .kept .1 .0 in
+    let q = renumber .kept .1 .1 .0 in (
       c .top-after .ensures,
-      serve-end (moved (c .before .before .before .before .before .before .before .before .before .before .before .before .before .before .before .before .before .args .change) (rowsOf (c .before .before .before .before .before .before .before .before .before .before .before .before .before .before .before .before .before .args .numbers .now) (c .before .before .before .before .before .before .before .before .before .before .before .before .before .before .before .before .before .args .pages .now))) (c .before .before .before .before .before .before .before .before .before .before .before .before .renumber .last .1 .1 .0) (c .before .before .before .before .before .before .before .before .before .before .before .before .renumber .last .1 .0)
-          (c .before .before .before .before .before .sort .last .1 .0) (c .before .before .before .before .before .sort .last .0) (c .before .before .before .before .before .before .before .before .before .before .before .before .renumber .result) _ _ _ (omega arith) (c .before .before .before .before .before .before .before .before .before .before .before .before .renumber .ensures .0) (omega arith) (c .before .before .before .before .before .before .before .before .before .before .before .before .renumber .ensures .1)
-          (c .before .before .before .before .before .sort .kept .0 ∙ length-take-le (c .before .before .before .before .before .before .before .before .before .before .before .before .renumber .result) (c .before .before .before .before .before .before .before .before .before .before .before .before .renumber .last .1 .0) (omega arith)) (c .before .before .before .before .before .sort .kept .1 .0 ∙ length-take-le (c .before .before .before .before .before .before .before .before .before .before .before .before .renumber .result) (c .before .before .before .before .before .before .before .before .before .before .before .before .renumber .last .1 .1 .0) (omega arith)) (c .before .before .before .before .before .sort .ensures)
+      serve-end (moved change (rowsOf numbers pages)) (renumber .last .1 .1 .0) (renumber .last .1 .0)
+          (sort .last .1 .0) (sort .last .0) (renumber .result) _ _ _ (omega arith) (renumber .ensures .0) (omega arith) (renumber .ensures .1)
+          (sort .kept .0 ∙ length-take-le (renumber .result) (renumber .last .1 .0) (omega arith))
+          (sort .kept .1 .0 ∙ length-take-le (renumber .result) (renumber .last .1 .1 .0) (omega arith)) (sort .ensures)
           ∙ rw (sym (c .top-after .ensures)),
     )
 
@@ -96,16 +82,16 @@ pub serve-spec : {M : Type 1} → statement M
 serve-spec =
     tie.close
     (tie.spec
-    renumber-requires
-    slice-relend-prefix-sort
+    (λ c κs. search needs)
+    (λ c. search needs)
     slice-aggregate-sort
-    slice-relend-prefix-sort-2
+    (λ c. search needs)
     slice-aggregate-sort-2
     sort-requires
-    top-after-requires
-    mul-pages
+    (λ c κs. search needs)
+    (λ c. search needs)
     slice-write-pages
-    mul-numbers
+    (λ c. search needs)
     slice-write-numbers
     same-length
     same-length-2

@@ -6,7 +6,12 @@ use Rattle.wire.proofs.read16.Statement.{statement}
 use Rattle.wire.proofs.read16.Tie as tie
 
 returns : tie.Need-returns
-returns c = omega (arith, num16-at (c .before .before .before .before .before .args .s .now) (c .before .before .before .before .before .args .at), c .before .before .wide16 .ensures, c .wide162 .ensures)
+returns c =
+    let start = c .before .before .before .before .before in
+    let offset = start .args .at in
+    let s = start .args .s .now in
+    let wide16 = c .before .before .wide16 in
+    omega (arith, num16-at s offset, wide16 .ensures, c .wide162 .ensures)
 
 pub read16-spec : {M : Type 1} → statement M
 read16-spec =

@@ -6,7 +6,14 @@ use Rattle.wire.proofs.read32.Statement.{statement}
 use Rattle.wire.proofs.read32.Tie as tie
 
 returns : tie.Need-returns
-returns c = omega (arith, num32-at (c .before .before .before .before .before .before .before .before .before .args .s .now) (c .before .before .before .before .before .before .before .before .before .args .at), c .before .before .before .before .before .before .wide32 .ensures, c .before .before .before .before .wide322 .ensures, c .before .before .wide323 .ensures, c .wide324 .ensures)
+returns c =
+    let start = c .before .before .before .before .before .before .before .before .before in
+    let offset = start .args .at in
+    let s = start .args .s .now in
+    let wide32 = c .before .before .before .before .before .before .wide32 in
+    let wide322 = c .before .before .before .before .wide322 in
+    let wide323 = c .before .before .wide323 in
+    omega (arith, num32-at s offset, wide32 .ensures, wide322 .ensures, wide323 .ensures, c .wide324 .ensures)
 
 pub read32-spec : {M : Type 1} → statement M
 read32-spec =

@@ -6,13 +6,33 @@ use Rattle.judge.proofs.buffer.add.Statement.{statement}
 use Rattle.judge.proofs.buffer.add.Tie as tie
 
 returns : tie.Need-returns
-returns c = add-present (c .before .before .before .before .args .page) (c .before .before .before .before .args .n) (c .before .before .before .before .args .held .now) (omega arith) (c .before .before .before .before .args .k) (sym (c .before .has .ensures) ∙ c .if1 .taken)
+returns c =
+    let start = c .before .before .before .before in
+    let held = start .args .held .now in
+    let k = start .args .k in
+    let n = start .args .n in
+    let page = start .args .page in
+    add-present page n held (omega arith) k (sym (c .before .has .ensures) ∙ c .if1 .taken)
 
 returns-2 : tie.Need-returns-2
-returns-2 c = add-full (c .before .before .before .before .before .args .page) (c .before .before .before .before .before .args .n) (c .before .before .before .before .before .args .held .now) (omega arith) (c .before .before .before .before .before .args .k) (c .before .before .before .before .before .args .held .now) (omega arith) (sym (c .before .before .has .ensures) ∙ c .before .if1 .left)
+returns-2 c =
+    let start = c .before .before .before .before .before in
+    let held = start .args .held .now in
+    let k = start .args .k in
+    let n = start .args .n in
+    let page = start .args .page in
+    let has = c .before .before .has in
+    add-full page n held (omega arith) k held (omega arith) (sym (has .ensures) ∙ c .before .if1 .left)
 
 returns-3 : tie.Need-returns-3
-returns-3 c = add-absent (c .before .before .before .before .before .args .page) (c .before .before .before .before .before .args .n) (c .before .before .before .before .before .args .held .now) (omega arith) (c .before .before .before .before .before .args .k) (omega arith) (sym (c .before .before .has .ensures) ∙ c .before .if1 .left)
+returns-3 c =
+    let start = c .before .before .before .before .before in
+    let held = start .args .held .now in
+    let k = start .args .k in
+    let n = start .args .n in
+    let page = start .args .page in
+    let has = c .before .before .has in
+    add-absent page n held (omega arith) k (omega arith) (sym (has .ensures) ∙ c .before .if1 .left)
 
 pub add-spec : {M : Type 1} → statement M
 add-spec =

@@ -11,7 +11,10 @@ use Rattle.judge.proofs.buffer.evict.Statement.{statement}
 use Rattle.judge.proofs.buffer.evict.Tie as tie
 
 abbrev Inv-loop : tie.InvT-loop
-Inv-loop held₀ n schedule from count at₀ left₀ m₀ held at left m = ((at + 4 * left ≡ from + 4 * count) × (m + count ≡ n + left) × (left ≤ count) × (length held ≡ length held₀)) × ((heldInTurn (nums32 count (drop from schedule)) (take n held₀) ≡ heldInTurn (nums32 left (drop at schedule)) (take m held)) × (eraseAll (nums32 count (drop from schedule)) (take n held₀) ≡ eraseAll (nums32 left (drop at schedule)) (take m held)))
+Inv-loop held₀ n schedule from count at₀ left₀ m₀ held at left m =
+    ((at + 4 * left ≡ from + 4 * count) × (m + count ≡ n + left) × (left ≤ count) × (length held ≡ length held₀)) ×
+    ((heldInTurn (nums32 count (drop from schedule)) (take n held₀) ≡ heldInTurn (nums32 left (drop at schedule)) (take m held)) ×
+    (eraseAll (nums32 count (drop from schedule)) (take n held₀) ≡ eraseAll (nums32 left (drop at schedule)) (take m held)))
 
 abbrev μ-loop : tie.MeasureT-loop
 μ-loop held₀ n schedule from count at₀ left₀ m₀ held at left m = left
@@ -20,16 +23,53 @@ loop-holds : tie.Need-loop-holds Inv-loop μ-loop
 loop-holds c = ((refl, refl, omega arith, refl), (refl, refl))
 
 sub-m : tie.Need-sub-m Inv-loop μ-loop
-sub-m c = let d = c .before .before .before .take-out .ensures .1 (c .if1 .taken) .0 in omega arith
+sub-m c =
+    let take-out = c .before .before .before .take-out in
+    let d = take-out .ensures .1 (c .if1 .taken) .0 in omega arith
 
 loop-again : tie.Need-loop-again Inv-loop μ-loop
-loop-again c = let d = c .before .before .before .take-out .ensures .1 (c .if1 .taken) in let l = d .0 in let kept = c .before .before .before .take-out .kept .0 in ((omega arith, omega arith, omega arith, omega arith), (c .before .before .before .before .before .before .before .loop .inv .1 .0 ∙ next-held (c .before .before .before .before .before .before .before .before .before .before .args .schedule .now) (c .before .before .before .before .before .before .before .loop .at) (c .before .before .before .before .before .before .before .loop .left) (c .before .before .before .before .before .read32 .result) (c .before .before .before .before .before .before .before .loop .m) (c .before .before .before .before .before .before .before .loop .held) (omega arith) (c .before .before .before .before .before .read32 .ensures) (c .before .before .before .take-out .last .0) (sym (c .before .before .before .take-out .ensures .0) ∙ c .if1 .taken) (d .1), c .before .before .before .before .before .before .before .loop .inv .1 .1 ∙ next-erased (c .before .before .before .before .before .before .before .before .before .before .args .schedule .now) (c .before .before .before .before .before .before .before .loop .at) (c .before .before .before .before .before .before .before .loop .left) (c .before .before .before .before .before .read32 .result) (c .before .before .before .before .before .before .before .loop .m) (c .before .before .before .before .before .before .before .loop .held) (omega arith) (c .before .before .before .before .before .read32 .ensures) (c .before .before .before .take-out .last .0) (d .1)))
+loop-again c =
+    let schedule = c .before .before .before .before .before .before .before .before .before .before .args .schedule .now in
+    let offset = c .before .before .before .before .before .before .before .loop .at in
+    let held = c .before .before .before .before .before .before .before .loop .held in
+    let inv = c .before .before .before .before .before .before .before .loop .inv in
+    let left = c .before .before .before .before .before .before .before .loop .left in
+    let m = c .before .before .before .before .before .before .before .loop .m in
+    let read32 = c .before .before .before .before .before .read32 in
+    let take-out = c .before .before .before .take-out in
+    let d = take-out .ensures .1 (c .if1 .taken) in
+    let l = d .0 in
+    let kept = take-out .kept .0 in (
+      (omega arith, omega arith, omega arith, omega arith),
+      (
+        inv .1 .0
+            ∙ next-held schedule offset left (read32 .result) m held (omega arith) (read32 .ensures) (take-out .last .0)
+            (sym (take-out .ensures .0) ∙ c .if1 .taken) (d .1),
+        inv .1 .1 ∙ next-erased schedule offset left (read32 .result) m held (omega arith) (read32 .ensures) (take-out .last .0) (d .1),
+      ),
+    )
 
 returns : tie.Need-returns Inv-loop μ-loop
-returns c = missing _ (c .before .before .before .before .before .before .before .loop .inv .1 .0 ∙ next-missing (c .before .before .before .before .before .before .before .before .before .before .args .schedule .now) (c .before .before .before .before .before .before .before .loop .at) (c .before .before .before .before .before .before .before .loop .left) (c .before .before .before .before .before .read32 .result) (c .before .before .before .before .before .before .before .loop .m) (c .before .before .before .before .before .before .before .loop .held) (omega arith) (c .before .before .before .before .before .read32 .ensures) (sym (c .before .before .before .take-out .ensures .0) ∙ c .if1 .left))
+returns c =
+    let schedule = c .before .before .before .before .before .before .before .before .before .before .args .schedule .now in
+    let offset = c .before .before .before .before .before .before .before .loop .at in
+    let held = c .before .before .before .before .before .before .before .loop .held in
+    let inv = c .before .before .before .before .before .before .before .loop .inv in
+    let left = c .before .before .before .before .before .before .before .loop .left in
+    let m = c .before .before .before .before .before .before .before .loop .m in
+    let read32 = c .before .before .before .before .before .read32 in
+    let take-out = c .before .before .before .take-out in
+    missing _ (inv .1 .0 ∙ next-missing schedule offset left (read32 .result) m held (omega arith) (read32 .ensures) (sym (take-out .ensures .0) ∙ c .if1 .left))
 
 returns-2 : tie.Need-returns-2 Inv-loop μ-loop
-returns-2 c = evicted (c .before .before .before .before .args .schedule .now) (c .before .loop .at) (c .before .loop .left) (c .before .loop .m) (c .before .before .before .before .args .n) (c .before .before .before .before .args .count) (c .before .loop .held) _ _ (omega arith) (omega arith) (c .before .loop .inv .1 .0) (c .before .loop .inv .1 .1)
+returns-2 c =
+    let start = c .before .before .before .before in
+    let count = start .args .count in
+    let n = start .args .n in
+    let schedule = start .args .schedule .now in
+    let inv = c .before .loop .inv in
+    evicted schedule (c .before .loop .at) (c .before .loop .left) (c .before .loop .m) n count (c .before .loop .held) _ _ (omega arith) (omega arith) (inv .1 .0)
+    (inv .1 .1)
 
 pub evict-spec : {M : Type 1} → statement M
 evict-spec =

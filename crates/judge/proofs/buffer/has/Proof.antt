@@ -6,7 +6,11 @@ use Rattle.judge.proofs.buffer.has.Statement.{statement}
 use Rattle.judge.proofs.buffer.has.Tie as tie
 
 slice-aggregate-has : tie.Need-slice-aggregate-has
-slice-aggregate-has c = sym (length-take-le (c .before .before .args .n) (c .before .before .args .held .now) (omega arith))
+slice-aggregate-has c =
+    let start = c .before .before in
+    let held = start .args .held .now in
+    let n = start .args .n in
+    sym (length-take-le n held (omega arith))
 
 returns : tie.Need-returns
 returns c = c .has .ensures

@@ -7,16 +7,37 @@ use Rattle.judge.proofs.buffer.take_out.Statement.{statement}
 use Rattle.judge.proofs.buffer.take_out.Tie as tie
 
 slice-aggregate-find : tie.Need-slice-aggregate-find
-slice-aggregate-find c = sym (length-take-le (c .before .before .args .n) (c .before .before .args .held .now) (omega arith))
+slice-aggregate-find c =
+    let start = c .before .before in
+    let held = start .args .held .now in
+    let n = start .args .n in
+    sym (length-take-le n held (omega arith))
 
 returns : tie.Need-returns
-returns c = not-there (c .before .before .before .before .args .page) (c .before .before .before .before .args .n) (c .before .find .result) (c .before .before .before .before .args .held .now) (c .before .before .before .before .args .held .now) (omega arith) (c .before .find .ensures) (omega arith)
+returns c =
+    let start = c .before .before .before .before in
+    let held = start .args .held .now in
+    let n = start .args .n in
+    let page = start .args .page in
+    let find = c .before .find in
+    not-there page n (find .result) held held (omega arith) (find .ensures) (omega arith)
 
 slice-aggregate-to-end : tie.Need-slice-aggregate-to-end
-slice-aggregate-to-end c = sym (length-take-le (c .before .before .before .before .before .args .n) (c .before .before .before .before .before .args .held .now) (omega arith))
+slice-aggregate-to-end c =
+    let start = c .before .before .before .before .before in
+    let held = start .args .held .now in
+    let n = start .args .n in
+    sym (length-take-le n held (omega arith))
 
 returns-2 : tie.Need-returns-2
-returns-2 c = taken-out (c .before .before .before .before .before .before .before .before .args .page) (c .before .before .before .before .before .before .before .before .args .n) (c .before .before .before .before .before .find .result) (c .before .before .before .before .before .before .before .before .args .held .now) (c .before .before .to-end .last .0) _ (omega arith) (c .before .before .before .before .before .find .ensures) (omega arith) (c .before .before .to-end .ensures) refl
+returns-2 c =
+    let start = c .before .before .before .before .before .before .before .before in
+    let held = start .args .held .now in
+    let n = start .args .n in
+    let page = start .args .page in
+    let find = c .before .before .before .before .before .find in
+    let to-end = c .before .before .to-end in
+    taken-out page n (find .result) held (to-end .last .0) _ (omega arith) (find .ensures) (omega arith) (to-end .ensures) refl
 
 pub take-out-spec : {M : Type 1} → statement M
 take-out-spec =

@@ -18,22 +18,37 @@ request-at-requires : tie.Need-request-at-requires Inv-loop μ-loop
 request-at-requires c κs = let i = c .before .loop .inv in let e = i .enough in (i .started, omega arith)
 
 add-requires : tie.Need-add-requires Inv-loop μ-loop
-add-requires c κs = let i = c .before .before .before .loop .inv in (i .room, omega arith)
+add-requires c κs =
+    let inv = c .before .before .before .loop .inv in
+    let i = inv in (i .room, omega arith)
 
 same-length : tie.Need-same-length Inv-loop μ-loop
-same-length c = c .before .before .before .add .kept .0 ∙ c .before .before .before .before .before .before .before .loop .inv .kept
+same-length c =
+    let inv = c .before .before .before .before .before .before .before .loop .inv in
+    let add = c .before .before .before .add in
+    add .kept .0 ∙ inv .kept
 
 returns : tie.Need-returns Inv-loop μ-loop
-returns c = (closes-over _ _ _ _ _ _ _ _ _ _ (c .before .before .before .before .before .before .before .loop .inv) (c .before .before .before .before .before .request-at .result .page) (c .before .before .before .before .before .request-at .result .next) (omega arith) (c .before .before .before .before .before .request-at .ensures .1) (omega arith), tt)
+returns c =
+    let inv = c .before .before .before .before .before .before .before .loop .inv in
+    let request-at = c .before .before .before .before .before .request-at in
+    (closes-over _ _ _ _ _ _ _ _ _ _ inv (request-at .result .page) (request-at .result .next) (omega arith) (request-at .ensures .1) (omega arith), tt)
 
 loop-again : tie.Need-loop-again Inv-loop μ-loop
-loop-again c = closes-next _ _ _ _ _ _ _ _ _ _ (c .before .before .before .before .before .before .before .loop .inv) (c .before .before .before .before .before .request-at .result .page) (c .before .before .before .before .before .request-at .result .next) (omega arith) (c .before .before .before .before .before .request-at .ensures .1) (c .before .before .before .add .result) (c .before .before .before .add .last .0) (c .before .before .before .before .before .request-at .ensures .0) (omega arith) (c .before .before .before .add .kept .0) (c .before .before .before .add .ensures .0) (c .before .before .before .add .ensures .1 (omega arith))
+loop-again c =
+    let inv = c .before .before .before .before .before .before .before .loop .inv in
+    let request-at = c .before .before .before .before .before .request-at in
+    let add = c .before .before .before .add in
+    closes-next _ _ _ _ _ _ _ _ _ _ inv (request-at .result .page) (request-at .result .next) (omega arith) (request-at .ensures .1) (add .result) (add .last .0)
+    (request-at .ensures .0) (omega arith) (add .kept .0) (add .ensures .0) (add .ensures .1 (omega arith))
 
 same-length-2 : tie.Need-same-length-2 Inv-loop μ-loop
 same-length-2 c = (c .before .loop .inv) .kept
 
 returns-2 : tie.Need-returns-2 Inv-loop μ-loop
-returns-2 c = (closes-done _ _ _ _ _ _ _ _ _ _ (c .before .loop .inv) (omega arith), record { room = c .before .loop .inv .room; started = c .before .loop .inv .started; damage = c .before .loop .inv .damage })
+returns-2 c =
+    let inv = c .before .loop .inv in
+    (closes-done _ _ _ _ _ _ _ _ _ _ inv (omega arith), record { room = inv .room; started = inv .started; damage = inv .damage })
 
 pub close-spec : {M : Type 1} → statement M
 close-spec =

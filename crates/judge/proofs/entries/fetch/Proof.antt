@@ -8,28 +8,128 @@ use Rattle.judge.proofs.entries.fetch.Statement.{statement}
 use Rattle.judge.proofs.entries.fetch.Tie as tie
 
 arrive-requires : tie.Need-arrive-requires
-arrive-requires c κs = (c .before .before .before .before .pre .0, omega arith)
+arrive-requires c κs =
+    let pre = c .before .before .before .before .pre in
+    (pre .0, omega arith)
 
 has-requires : tie.Need-has-requires
-has-requires c κs = let d = lands (c .before .before .before .before .before .before .before .before .before .before .before .args .k) (c .before .before .before .before .before .before .before .before .before .before .before .args .requests) _ (c .before .before .before .before .before .before .before .before .before .before .before .args .trace .now) (c .before .before .before .before .before .before .before .before .before .before .before .args .schedule .now) (c .before .before .before .before .before .before .arrive .result) (c .before .before .here .given .0 .0) (c .before .before .here .given .1) (c .before .before .before .before .before .before .arrive .ensures .1) in let r = d .sound .room in let kept = c .before .before .before .before .before .before .arrive .kept .1 .1 .0 in omega arith
+has-requires c κs =
+    let start = c .before .before .before .before .before .before .before .before .before .before .before in
+    let k = start .args .k in
+    let requests = start .args .requests in
+    let schedule = start .args .schedule .now in
+    let trace = start .args .trace .now in
+    let arrive = c .before .before .before .before .before .before .arrive in
+    let here = c .before .before .here in
+    let d = lands k requests _ trace schedule (arrive .result) (here .given .0 .0) (here .given .1) (arrive .ensures .1) in
+    let r = d .sound .room in let kept = arrive .kept .1 .1 .0 in omega arith
 
 returns : tie.Need-returns
-returns c = let d = lands (c .before .before .before .before .before .before .before .before .before .before .before .before .before .args .k) (c .before .before .before .before .before .before .before .before .before .before .before .before .before .args .requests) _ (c .before .before .before .before .before .before .before .before .before .before .before .before .before .args .trace .now) (c .before .before .before .before .before .before .before .before .before .before .before .before .before .args .schedule .now) (c .before .before .before .before .before .before .before .before .arrive .result) (c .before .before .before .before .here .given .0 .0) (c .before .before .before .before .here .given .1) (c .before .before .before .before .before .before .before .before .arrive .ensures .1) in (pf-held (c .before .before .before .before .before .before .before .before .before .before .before .before .before .args .k) (c .before .before .before .before .before .before .before .before .before .before .before .before .before .args .requests) (c .before .before .before .before .before .before .before .before .before .before .before .before .before .args .trace .now) (c .before .before .before .before .before .before .before .before .before .before .before .before .before .args .schedule .now) (c .before .before .before .before .before .before .before .before .arrive .last .1 .1 .0) (c .before .before .before .before .here .given .0 .0) (d .sound) (c .before .before .before .before .before .before .before .before .before .before .before .before .before .args .t) (c .before .before .before .before .before .before .before .before .before .before .before .before .before .args .page) (sym (c .if1 .taken) ∙ c .before .has .ensures) ∙ acts (c .before .before .before .before .before .before .before .before .before .before .before .before .before .args .k) (c .before .before .before .before .before .before .before .before .before .before .before .before .before .args .trace .now) (c .before .before .before .before .before .before .before .before .before .before .before .before .before .args .schedule .now) (c .before .before .before .before .before .before .before .before .arrive .last .1 .1 .0) (standing (c .before .before .before .before .before .before .before .before .before .before .before .before .before .args .trace .now) (c .before .before .before .before .before .before .before .before .before .before .before .before .before .args .schedule .now) (c .before .before .before .before .before .before .before .before .before .before .before .before .before .args .held .now) (c .before .before .before .before .before .before .before .before .before .before .before .before .before .args .place)) (pf (c .before .before .before .before .before .before .before .before .before .before .before .before .before .args .t) (c .before .before .before .before .before .before .before .before .before .before .before .before .before .args .page)) (c .before .before .before .before .before .before .before .before .arrive .result) (c .before .before .before .before .before .before .before .before .arrive .ensures .0) (c .before .before .before .before .here .given .0 .0) (c .before .before .before .before .here .given .1), tt)
+returns c =
+    let start = c .before .before .before .before .before .before .before .before .before .before .before .before .before in
+    let held = start .args .held .now in
+    let k = start .args .k in
+    let page = start .args .page in
+    let place = start .args .place in
+    let requests = start .args .requests in
+    let schedule = start .args .schedule .now in
+    let t = start .args .t in
+    let trace = start .args .trace .now in
+    let arrive = c .before .before .before .before .before .before .before .before .arrive in
+    let here = c .before .before .before .before .here in
+    let d = lands k requests _ trace schedule (arrive .result) (here .given .0 .0) (here .given .1) (arrive .ensures .1) in (
+      pf-held k requests trace schedule (arrive .last .1 .1 .0) (here .given .0 .0) (d .sound) t page (sym (c .if1 .taken) ∙ c .before .has .ensures)
+          ∙ acts k trace schedule (arrive .last .1 .1 .0) (standing trace schedule held place) (pf t page) (arrive .result) (arrive .ensures .0) (here .given .0 .0)
+          (here .given .1),
+      tt,
+    )
 
 fetched-requires : tie.Need-fetched-requires
-fetched-requires c κs = let d = lands (c .before .before .before .before .before .before .before .before .before .before .before .before .before .args .k) (c .before .before .before .before .before .before .before .before .before .before .before .before .before .args .requests) _ (c .before .before .before .before .before .before .before .before .before .before .before .before .before .args .trace .now) (c .before .before .before .before .before .before .before .before .before .before .before .before .before .args .schedule .now) (c .before .before .before .before .before .before .before .before .arrive .result) (c .before .before .before .before .here .given .0 .0) (c .before .before .before .before .here .given .1) (c .before .before .before .before .before .before .before .before .arrive .ensures .1) in d .sound .inside
+fetched-requires c κs =
+    let start = c .before .before .before .before .before .before .before .before .before .before .before .before .before in
+    let k = start .args .k in
+    let requests = start .args .requests in
+    let schedule = start .args .schedule .now in
+    let trace = start .args .trace .now in
+    let arrive = c .before .before .before .before .before .before .before .before .arrive in
+    let here = c .before .before .before .before .here in
+    let d = lands k requests _ trace schedule (arrive .result) (here .given .0 .0) (here .given .1) (arrive .ensures .1) in
+    d .sound .inside
 
 returns-2 : tie.Need-returns-2
-returns-2 c = let d = lands (c .before .before .before .before .before .before .before .before .before .before .before .before .before .before .before .args .k) (c .before .before .before .before .before .before .before .before .before .before .before .before .before .before .before .args .requests) _ (c .before .before .before .before .before .before .before .before .before .before .before .before .before .before .before .args .trace .now) (c .before .before .before .before .before .before .before .before .before .before .before .before .before .before .before .args .schedule .now) (c .before .before .before .before .before .before .before .before .before .before .arrive .result) (c .before .before .before .before .before .before .here .given .0 .0) (c .before .before .before .before .before .before .here .given .1) (c .before .before .before .before .before .before .before .before .before .before .arrive .ensures .1) in (pf-fetched (c .before .before .before .before .before .before .before .before .before .before .before .before .before .before .before .args .k) (c .before .before .before .before .before .before .before .before .before .before .before .before .before .before .before .args .requests) (c .before .before .before .before .before .before .before .before .before .before .before .before .before .before .before .args .trace .now) (c .before .before .before .before .before .before .before .before .before .before .before .before .before .before .before .args .schedule .now) (c .before .before .before .before .before .before .before .before .before .before .arrive .last .1 .1 .0) (c .before .before .before .before .before .before .here .given .0 .0) (d .sound) (c .before .before .before .before .before .before .before .before .before .before .before .before .before .before .before .args .t) (c .before .before .before .before .before .before .before .before .before .before .before .before .before .before .before .args .page) (sym (c .if2 .taken) ∙ c .before .fetched .ensures) ∙ acts (c .before .before .before .before .before .before .before .before .before .before .before .before .before .before .before .args .k) (c .before .before .before .before .before .before .before .before .before .before .before .before .before .before .before .args .trace .now) (c .before .before .before .before .before .before .before .before .before .before .before .before .before .before .before .args .schedule .now) (c .before .before .before .before .before .before .before .before .before .before .arrive .last .1 .1 .0) (standing (c .before .before .before .before .before .before .before .before .before .before .before .before .before .before .before .args .trace .now) (c .before .before .before .before .before .before .before .before .before .before .before .before .before .before .before .args .schedule .now) (c .before .before .before .before .before .before .before .before .before .before .before .before .before .before .before .args .held .now) (c .before .before .before .before .before .before .before .before .before .before .before .before .before .before .before .args .place)) (pf (c .before .before .before .before .before .before .before .before .before .before .before .before .before .before .before .args .t) (c .before .before .before .before .before .before .before .before .before .before .before .before .before .before .before .args .page)) (c .before .before .before .before .before .before .before .before .before .before .arrive .result) (c .before .before .before .before .before .before .before .before .before .before .arrive .ensures .0) (c .before .before .before .before .before .before .here .given .0 .0) (c .before .before .before .before .before .before .here .given .1), tt)
+returns-2 c =
+    let start = c .before .before .before .before .before .before .before .before .before .before .before .before .before .before .before in
+    let held = start .args .held .now in
+    let k = start .args .k in
+    let page = start .args .page in
+    let place = start .args .place in
+    let requests = start .args .requests in
+    let schedule = start .args .schedule .now in
+    let t = start .args .t in
+    let trace = start .args .trace .now in
+    let arrive = c .before .before .before .before .before .before .before .before .before .before .arrive in
+    let here = c .before .before .before .before .before .before .here in
+    let d = lands k requests _ trace schedule (arrive .result) (here .given .0 .0) (here .given .1) (arrive .ensures .1) in (
+      pf-fetched k requests trace schedule (arrive .last .1 .1 .0) (here .given .0 .0) (d .sound) t page (sym (c .if2 .taken) ∙ c .before .fetched .ensures)
+          ∙ acts k trace schedule (arrive .last .1 .1 .0) (standing trace schedule held place) (pf t page) (arrive .result) (arrive .ensures .0) (here .given .0 .0)
+          (here .given .1),
+      tt,
+    )
 
 add-t22 : tie.Need-add-t22
-add-t22 c = let d = lands (c .before .before .before .before .before .before .before .before .before .before .before .before .before .before .before .args .k) (c .before .before .before .before .before .before .before .before .before .before .before .before .before .before .before .args .requests) _ (c .before .before .before .before .before .before .before .before .before .before .before .before .before .before .before .args .trace .now) (c .before .before .before .before .before .before .before .before .before .before .before .before .before .before .before .args .schedule .now) (c .before .before .before .before .before .before .before .before .before .before .arrive .result) (c .before .before .before .before .before .before .here .given .0 .0) (c .before .before .before .before .before .before .here .given .1) (c .before .before .before .before .before .before .before .before .before .before .arrive .ensures .1) in let i = d .sound .inside in omega arith
+add-t22 c =
+    let start = c .before .before .before .before .before .before .before .before .before .before .before .before .before .before .before in
+    let k = start .args .k in
+    let requests = start .args .requests in
+    let schedule = start .args .schedule .now in
+    let trace = start .args .trace .now in
+    let arrive = c .before .before .before .before .before .before .before .before .before .before .arrive in
+    let here = c .before .before .before .before .before .before .here in
+    let d = lands k requests _ trace schedule (arrive .result) (here .given .0 .0) (here .given .1) (arrive .ensures .1) in
+    let i = d .sound .inside in omega arith
 
 returns-3 : tie.Need-returns-3
-returns-3 c = (halts (c .before .before .before .before .before .before .before .before .before .before .args .k) (c .before .before .before .before .before .before .before .before .before .before .args .trace .now) (c .before .before .before .before .before .before .before .before .before .before .args .schedule .now) (c .before .before .before .before .before .arrive .last .1 .1 .0) (standing (c .before .before .before .before .before .before .before .before .before .before .args .trace .now) (c .before .before .before .before .before .before .before .before .before .before .args .schedule .now) (c .before .before .before .before .before .before .before .before .before .before .args .held .now) (c .before .before .before .before .before .before .before .before .before .before .args .place)) (pf (c .before .before .before .before .before .before .before .before .before .before .args .t) (c .before .before .before .before .before .before .before .before .before .before .args .page)) (c .before .before .before .before .before .arrive .result) (c .before .before .before .before .before .arrive .ensures .0) (c .before .number .given .0 .0) (c .before .number .given .1), tt)
+returns-3 c =
+    let start = c .before .before .before .before .before .before .before .before .before .before in
+    let held = start .args .held .now in
+    let k = start .args .k in
+    let page = start .args .page in
+    let place = start .args .place in
+    let schedule = start .args .schedule .now in
+    let t = start .args .t in
+    let trace = start .args .trace .now in
+    let arrive = c .before .before .before .before .before .arrive in
+    let number = c .before .number in (
+      halts k trace schedule (arrive .last .1 .1 .0) (standing trace schedule held place) (pf t page) (arrive .result) (arrive .ensures .0) (number .given .0 .0)
+          (number .given .1),
+      tt,
+    )
 
 returns-4 : tie.Need-returns-4
-returns-4 c = let d = lands (c .before .before .before .before .before .before .before .before .before .before .before .before .before .before .before .args .k) (c .before .before .before .before .before .before .before .before .before .before .before .before .before .before .before .args .requests) _ (c .before .before .before .before .before .before .before .before .before .before .before .before .before .before .before .args .trace .now) (c .before .before .before .before .before .before .before .before .before .before .before .before .before .before .before .args .schedule .now) (c .before .before .before .before .before .before .before .before .before .before .arrive .result) (c .before .before .before .before .before .before .here .given .0 .0) (c .before .before .before .before .before .before .here .given .1) (c .before .before .before .before .before .before .before .before .before .before .arrive .ensures .1) in let e = d .ends in let m = rw (← e) at (c .before .before .before .before .before .before .before .before .before .before .before .before .before .before .before .pre .3) in (pf-done (c .before .before .before .before .before .before .before .before .before .before .before .before .before .before .before .args .k) (c .before .before .before .before .before .before .before .before .before .before .before .before .before .before .before .args .requests) (c .before .before .before .before .before .before .before .before .before .before .before .before .before .before .before .args .trace .now) (c .before .before .before .before .before .before .before .before .before .before .before .before .before .before .before .args .schedule .now) (c .before .before .before .before .before .before .before .before .before .before .arrive .last .1 .1 .0) (c .before .before .before .before .before .before .here .given .0 .0) (d .sound) (c .before .before .before .before .before .before .before .before .before .before .before .before .before .before .before .args .t) (c .before .before .before .before .before .before .before .before .before .before .before .before .before .before .before .args .page) (sym (c .before .before .if1 .left) ∙ c .before .before .before .has .ensures) (sym (c .if2 .left) ∙ c .before .fetched .ensures) m ∙ acts (c .before .before .before .before .before .before .before .before .before .before .before .before .before .before .before .args .k) (c .before .before .before .before .before .before .before .before .before .before .before .before .before .before .before .args .trace .now) (c .before .before .before .before .before .before .before .before .before .before .before .before .before .before .before .args .schedule .now) (c .before .before .before .before .before .before .before .before .before .before .arrive .last .1 .1 .0) (standing (c .before .before .before .before .before .before .before .before .before .before .before .before .before .before .before .args .trace .now) (c .before .before .before .before .before .before .before .before .before .before .before .before .before .before .before .args .schedule .now) (c .before .before .before .before .before .before .before .before .before .before .before .before .before .before .before .args .held .now) (c .before .before .before .before .before .before .before .before .before .before .before .before .before .before .before .args .place)) (pf (c .before .before .before .before .before .before .before .before .before .before .before .before .before .before .before .args .t) (c .before .before .before .before .before .before .before .before .before .before .before .before .before .before .before .args .page)) (c .before .before .before .before .before .before .before .before .before .before .arrive .result) (c .before .before .before .before .before .before .before .before .before .before .arrive .ensures .0) (c .before .before .before .before .before .before .here .given .0 .0) (c .before .before .before .before .before .before .here .given .1), rw (← e) (pf-sound (c .before .before .before .before .before .before .before .before .before .before .before .before .before .before .before .args .k) (c .before .before .before .before .before .before .before .before .before .before .before .before .before .before .before .args .requests) (c .before .before .before .before .before .before .before .before .before .before .before .before .before .before .before .args .trace .now) (c .before .before .before .before .before .before .before .before .before .before .before .before .before .before .before .args .schedule .now) (c .before .before .before .before .before .before .before .before .before .before .arrive .last .1 .1 .0) (c .before .before .before .before .before .before .here .given .0 .0) (d .sound) (c .before .before .before .before .before .before .before .before .before .before .before .before .before .before .before .args .t) (omega arith)))
+returns-4 c =
+    let start = c .before .before .before .before .before .before .before .before .before .before .before .before .before .before .before in
+    let held = start .args .held .now in
+    let k = start .args .k in
+    let page = start .args .page in
+    let place = start .args .place in
+    let requests = start .args .requests in
+    let schedule = start .args .schedule .now in
+    let t = start .args .t in
+    let trace = start .args .trace .now in
+    let pre = start .pre in
+    let arrive = c .before .before .before .before .before .before .before .before .before .before .arrive in
+    let here = c .before .before .before .before .before .before .here in
+    let has = c .before .before .before .has in
+    let if1 = c .before .before .if1 in
+    let d = lands k requests _ trace schedule (arrive .result) (here .given .0 .0) (here .given .1) (arrive .ensures .1) in
+    let e = d .ends in
+    let m = rw (← e) at (pre .3) in (
+      pf-done k requests trace schedule (arrive .last .1 .1 .0) (here .given .0 .0) (d .sound) t page (sym (if1 .left) ∙ has .ensures)
+          (sym (c .if2 .left) ∙ c .before .fetched .ensures) m
+          ∙ acts k trace schedule (arrive .last .1 .1 .0) (standing trace schedule held place) (pf t page) (arrive .result) (arrive .ensures .0) (here .given .0 .0)
+          (here .given .1),
+      rw (← e) (pf-sound k requests trace schedule (arrive .last .1 .1 .0) (here .given .0 .0) (d .sound) t (omega arith)),
+    )
 
 pub fetch-spec : {M : Type 1} → statement M
 fetch-spec =

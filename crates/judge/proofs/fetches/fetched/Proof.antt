@@ -18,13 +18,33 @@ loop-holds : tie.Need-loop-holds Inv-loop μ-loop
 loop-holds c = (refl, refl)
 
 returns : tie.Need-returns Inv-loop μ-loop
-returns c = sym (c .before .before .before .loop .inv .1 ∙ fetched-here (c .before .before .before .before .before .args .schedule .now) (c .before .before .before .loop .at) (c .before .before .before .loop .left) (c .before .before .before .before .before .args .page) (c .before .read32 .result) (omega arith) (c .before .read32 .ensures) (c .if1 .taken))
+returns c =
+    let start = c .before .before .before .before .before in
+    let page = start .args .page in
+    let schedule = start .args .schedule .now in
+    let offset = c .before .before .before .loop .at in
+    let inv = c .before .before .before .loop .inv in
+    let left = c .before .before .before .loop .left in
+    let read32 = c .before .read32 in
+    sym (inv .1 ∙ fetched-here schedule offset left page (read32 .result) (omega arith) (read32 .ensures) (c .if1 .taken))
 
 loop-again : tie.Need-loop-again Inv-loop μ-loop
-loop-again c = (omega arith, c .before .before .before .loop .inv .1 ∙ fetched-next (c .before .before .before .before .before .args .schedule .now) (c .before .before .before .loop .at) (c .before .before .before .loop .left) (c .before .before .before .before .before .args .page) (c .before .read32 .result) (omega arith) (c .before .read32 .ensures) (c .if1 .left))
+loop-again c =
+    let start = c .before .before .before .before .before in
+    let page = start .args .page in
+    let schedule = start .args .schedule .now in
+    let offset = c .before .before .before .loop .at in
+    let inv = c .before .before .before .loop .inv in
+    let left = c .before .before .before .loop .left in
+    let read32 = c .before .read32 in
+    (omega arith, inv .1 ∙ fetched-next schedule offset left page (read32 .result) (omega arith) (read32 .ensures) (c .if1 .left))
 
 returns-2 : tie.Need-returns-2 Inv-loop μ-loop
-returns-2 c = sym (c .before .loop .inv .1 ∙ fetched-none (c .before .before .before .args .schedule .now) (c .before .loop .at) (c .before .loop .left) (c .before .before .before .args .page) (omega arith))
+returns-2 c =
+    let start = c .before .before .before in
+    let page = start .args .page in
+    let schedule = start .args .schedule .now in
+    sym (c .before .loop .inv .1 ∙ fetched-none schedule (c .before .loop .at) (c .before .loop .left) page (omega arith))
 
 pub fetched-spec : {M : Type 1} → statement M
 fetched-spec =

@@ -10,7 +10,8 @@ use Rattle.judge.proofs.fetches.settle.Statement.{statement}
 use Rattle.judge.proofs.fetches.settle.Tie as tie
 
 abbrev Inv-loop : tie.InvT-loop
-Inv-loop schedule from count held₀ n at₀ left₀ m₀ held at left m = (at + 10 * left ≡ from + 10 * count) × (m + left ≡ n + count) × (length held ≡ length held₀) × (take m held ++ fetchedPages schedule at left ≡ take n held₀ ++ fetchedPages schedule from count)
+Inv-loop schedule from count held₀ n at₀ left₀ m₀ held at left m = (at + 10 * left ≡ from + 10 * count) × (m + left ≡ n + count) × (length held ≡ length held₀) ×
+    (take m held ++ fetchedPages schedule at left ≡ take n held₀ ++ fetchedPages schedule from count)
 
 abbrev μ-loop : tie.MeasureT-loop
 μ-loop schedule from count held₀ n at₀ left₀ m₀ held at left m = left
@@ -19,10 +20,27 @@ loop-holds : tie.Need-loop-holds Inv-loop μ-loop
 loop-holds c = (refl, refl, refl, refl)
 
 loop-again : tie.Need-loop-again Inv-loop μ-loop
-loop-again c = (omega arith, omega arith, simp length-set (omega arith), settled-next (c .before .before .before .before .before .args .schedule .now) (c .before .before .loop .at) (c .before .before .loop .left) 0 (c .read32 .result) (omega arith) (c .read32 .ensures) (c .before .before .loop .held) (c .before .before .loop .m) (omega arith) ∙ c .before .before .loop .inv .3)
+loop-again c =
+    let schedule = c .before .before .before .before .before .args .schedule .now in
+    let offset = c .before .before .loop .at in
+    let held = c .before .before .loop .held in
+    let inv = c .before .before .loop .inv in
+    let left = c .before .before .loop .left in
+    let m = c .before .before .loop .m in (
+      omega arith,
+      omega arith,
+      simp length-set (omega arith),
+      settled-next schedule offset left 0 (c .read32 .result) (omega arith) (c .read32 .ensures) held m (omega arith) ∙ inv .3,
+    )
 
 returns : tie.Need-returns Inv-loop μ-loop
-returns c = settled-all (c .before .before .before .before .args .schedule .now) (c .before .loop .held) _ (c .before .loop .at) (c .before .loop .left) (c .before .loop .m) (c .before .before .before .before .args .count) (c .before .before .before .before .args .n) (omega arith) (omega arith) (c .before .loop .inv .3)
+returns c =
+    let start = c .before .before .before .before in
+    let count = start .args .count in
+    let n = start .args .n in
+    let schedule = start .args .schedule .now in
+    settled-all schedule (c .before .loop .held) _ (c .before .loop .at) (c .before .loop .left) (c .before .loop .m) count n (omega arith) (omega arith)
+    (c .before .loop .inv .3)
 
 pub settle-spec : {M : Type 1} → statement M
 settle-spec =

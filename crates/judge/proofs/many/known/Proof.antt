@@ -7,13 +7,43 @@ use Rattle.judge.proofs.many.known.Statement.{statement}
 use Rattle.judge.proofs.many.known.Tie as tie
 
 returns : tie.Need-returns
-returns c = known-held (c .before .before .before .before .before .args .page) (take (c .before .before .before .before .before .args .n) (c .before .before .before .before .before .args .held .now)) (fetchedPages (c .before .before .before .before .before .args .schedule .now) (c .before .before .before .before .before .args .from) (c .before .before .before .before .before .args .count)) (sym (c .if1 .taken) ∙ c .before .has .ensures)
+returns c =
+    let start = c .before .before .before .before .before in
+    let count = start .args .count in
+    let from = start .args .from in
+    let held = start .args .held .now in
+    let n = start .args .n in
+    let page = start .args .page in
+    let schedule = start .args .schedule .now in
+    known-held page (take n held) (fetchedPages schedule from count) (sym (c .if1 .taken) ∙ c .before .has .ensures)
 
 returns-2 : tie.Need-returns-2
-returns-2 c = known-fetched (c .before .before .before .before .before .before .before .before .args .page) (take (c .before .before .before .before .before .before .before .before .args .n) (c .before .before .before .before .before .before .before .before .args .held .now)) (fetchedPages (c .before .before .before .before .before .before .before .before .args .schedule .now) (c .before .before .before .before .before .before .before .before .args .from) (c .before .before .before .before .before .before .before .before .args .count)) (c .fetched .result) (sym (c .before .before .before .if1 .left) ∙ c .before .before .before .before .has .ensures) (c .fetched .ensures)
+returns-2 c =
+    let start = c .before .before .before .before .before .before .before .before in
+    let count = start .args .count in
+    let from = start .args .from in
+    let held = start .args .held .now in
+    let n = start .args .n in
+    let page = start .args .page in
+    let schedule = start .args .schedule .now in
+    let has = c .before .before .before .before .has in
+    let if1 = c .before .before .before .if1 in
+    known-fetched page (take n held) (fetchedPages schedule from count) (c .fetched .result) (sym (if1 .left) ∙ has .ensures) (c .fetched .ensures)
 
 returns-3 : tie.Need-returns-3
-returns-3 c = known-not (c .before .before .before .before .before .before .before .args .page) (take (c .before .before .before .before .before .before .before .args .n) (c .before .before .before .before .before .before .before .args .held .now)) (fetchedPages (c .before .before .before .before .before .before .before .args .schedule .now) (c .before .before .before .before .before .before .before .args .from) (c .before .before .before .before .before .before .before .args .count)) (c .before .before .before .before .before .before .before .args .marks .now) (c .before .before .before .before .before .before .before .pre .3) (sym (c .before .before .if1 .left) ∙ c .before .before .before .has .ensures) (sym (c .if2 .left) ∙ c .before .marked .ensures)
+returns-3 c =
+    let start = c .before .before .before .before .before .before .before in
+    let count = start .args .count in
+    let from = start .args .from in
+    let held = start .args .held .now in
+    let marks = start .args .marks .now in
+    let n = start .args .n in
+    let page = start .args .page in
+    let schedule = start .args .schedule .now in
+    let pre = start .pre in
+    let has = c .before .before .before .has in
+    let if1 = c .before .before .if1 in
+    known-not page (take n held) (fetchedPages schedule from count) marks (pre .3) (sym (if1 .left) ∙ has .ensures) (sym (c .if2 .left) ∙ c .before .marked .ensures)
 
 pub known-spec : {M : Type 1} → statement M
 known-spec =

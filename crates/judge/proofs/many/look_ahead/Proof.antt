@@ -4,7 +4,16 @@ use Rattle.judge.proofs.many.look_ahead.Statement.{statement}
 use Rattle.judge.proofs.many.look_ahead.Tie as tie
 
 returns : tie.Need-returns
-returns c = ahead-is (c .before .before .before .before .before .before .args .a) (c .before .before .before .before .before .before .args .schedule .now) (c .before .before .before .before .before .before .args .at) (c .before .before .before .before .before .before .args .t) (c .before .before .before .before .schedule-within .result) (c .before .before .before .before .schedule-within .ensures) (c .before .before .own .given .0 .0) (c .before .before .own .given .0 .1 .0) (c .before .before .own .given .0 .1 .1 .0) (c .before .before .own .given .1) (c .if1 .taken)
+returns c =
+    let start = c .before .before .before .before .before .before in
+    let a = start .args .a in
+    let offset = start .args .at in
+    let schedule = start .args .schedule .now in
+    let t = start .args .t in
+    let schedule-within = c .before .before .before .before .schedule-within in
+    let own = c .before .before .own in
+    ahead-is a schedule offset t (schedule-within .result) (schedule-within .ensures) (own .given .0 .0) (own .given .0 .1 .0) (own .given .0 .1 .1 .0) (own .given .1)
+    (c .if1 .taken)
 
 pub look-ahead-spec : {M : Type 1} → statement M
 look-ahead-spec =

@@ -17,19 +17,40 @@ abbrev μ-loop : tie.MeasureT-loop
 μ-loop schedule from count marks₀ done₀ marks done = count - done
 
 loop-holds : tie.Need-loop-holds Inv-loop μ-loop
-loop-holds c = (omega arith, c .before .before .pre .1, all-none _)
+loop-holds c =
+    let pre = c .before .before .pre in
+    (omega arith, pre .1, all-none _)
 
 mark-requires : tie.Need-mark-requires Inv-loop μ-loop
-mark-requires c κs = c .before .before .before .loop .inv .1
+mark-requires c κs =
+    let inv = c .before .before .before .loop .inv in
+    inv .1
 
 loop-again : tie.Need-loop-again Inv-loop μ-loop
-loop-again c = (omega arith, c .before .before .mark .kept .0 ∙ c .before .before .before .before .before .before .loop .inv .1, mark-next (c .before .before .before .before .before .before .before .before .before .args .schedule .now) (c .before .before .before .before .before .before .before .before .before .args .from) (c .before .before .before .before .before .before .loop .done) (c .before .before .before .before .before .before .loop .marks) (c .before .before .mark .last .0) (c .before .before .before .before .read32 .result) (c .before .before .before .before .before .before .loop .inv .1) (c .before .before .mark .ensures) (c .before .before .before .before .read32 .ensures) (c .before .before .before .before .before .before .loop .inv .2))
+loop-again c =
+    let start = c .before .before .before .before .before .before .before .before .before in
+    let from = start .args .from in
+    let schedule = start .args .schedule .now in
+    let done = c .before .before .before .before .before .before .loop .done in
+    let inv = c .before .before .before .before .before .before .loop .inv in
+    let marks = c .before .before .before .before .before .before .loop .marks in
+    let read32 = c .before .before .before .before .read32 in
+    let mark = c .before .before .mark in
+    (omega arith, mark .kept .0 ∙ inv .1, mark-next schedule from done marks (mark .last .0) (read32 .result) (inv .1) (mark .ensures) (read32 .ensures) (inv .2))
 
 same-length : tie.Need-same-length Inv-loop μ-loop
-same-length c = c .before .loop .inv .1 ∙ sym (c .before .before .before .before .pre .1)
+same-length c =
+    let pre = c .before .before .before .before .pre in
+    c .before .loop .inv .1 ∙ sym (pre .1)
 
 returns : tie.Need-returns Inv-loop μ-loop
-returns c = mark-last (c .before .before .before .before .args .schedule .now) (c .before .before .before .before .args .from) (c .before .before .before .before .args .count) (c .before .loop .done) (c .before .loop .marks) (c .before .loop .inv .0) (omega arith) (c .before .loop .inv .2)
+returns c =
+    let start = c .before .before .before .before in
+    let count = start .args .count in
+    let from = start .args .from in
+    let schedule = start .args .schedule .now in
+    let inv = c .before .loop .inv in
+    mark-last schedule from count (c .before .loop .done) (c .before .loop .marks) (inv .0) (omega arith) (inv .2)
 
 pub mark-all-spec : {M : Type 1} → statement M
 mark-all-spec =

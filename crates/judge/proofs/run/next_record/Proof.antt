@@ -6,37 +6,149 @@ use Rattle.judge.proofs.run.next_record.Statement.{statement}
 use Rattle.judge.proofs.run.next_record.Tie as tie
 
 mul-at : tie.Need-mul-at
-mul-at c = let i = c .before .before .before .before .pre .0 .inside in omega arith
+mul-at c =
+    let pre = c .before .before .before .before .pre in
+    let i = pre .0 .inside in omega arith
 
 add-at : tie.Need-add-at
-add-at c = let i = c .before .before .before .before .before .pre .0 .inside in omega arith
+add-at c =
+    let pre = c .before .before .before .before .before .pre in
+    let i = pre .0 .inside in omega arith
 
 bundle-requires : tie.Need-bundle-requires
-bundle-requires c κs = let f = ev-fact (c .before .before .before .before .before .before .before .before .before .before .args .k) (c .before .before .before .before .before .before .before .before .before .before .args .a) (c .before .before .before .before .before .before .before .before .before .before .args .requests) (c .before .before .before .before .before .before .before .before .before .before .args .trace .now) (c .before .before .before .before .before .before .before .before .before .before .args .schedule .now) (c .before .before .before .before .before .before .before .before .before .before .args .held .now) (c .before .before .before .before .before .before .before .before .before .before .args .place) (c .before .before .before .before .before .before .before .before .before .before .pre .0) (c .before .before .before .before .schedule-within .result) (c .before .before .before .before .schedule-within .ensures) (c .before .before .t .given .0 .0) (c .before .before .t .given .0 .1 .0) (c .before .before .t .given .0 .1 .1 .0) (c .before .before .t .given .0 .1 .1 .1 .0) (c .before .before .t .given .1) in let p = f .pages in let b = f .behind in let i = f .inside in (c .before .before .before .before .before .before .before .before .before .before .pre .0, omega arith, omega arith, omega arith, omega arith)
+bundle-requires c κs =
+    let start = c .before .before .before .before .before .before .before .before .before .before in
+    let a = start .args .a in
+    let held = start .args .held .now in
+    let k = start .args .k in
+    let place = start .args .place in
+    let requests = start .args .requests in
+    let schedule = start .args .schedule .now in
+    let trace = start .args .trace .now in
+    let pre = start .pre in
+    let schedule-within = c .before .before .before .before .schedule-within in
+    let t = c .before .before .t in
+    let f = ev-fact k a requests trace schedule held place (pre .0) (schedule-within .result) (schedule-within .ensures) (t .given .0 .0) (t .given .0 .1 .0)
+    (t .given .0 .1 .1 .0) (t .given .0 .1 .1 .1 .0) (t .given .1) in
+    let p = f .pages in
+    let b = f .behind in let i = f .inside in (pre .0, omega arith, omega arith, omega arith, omega arith)
 
 fetch-requires : tie.Need-fetch-requires
-fetch-requires c κs = let f = pf-fact (c .before .before .before .before .before .before .before .before .before .before .args .k) (c .before .before .before .before .before .before .before .before .before .before .args .a) (c .before .before .before .before .before .before .before .before .before .before .args .requests) (c .before .before .before .before .before .before .before .before .before .before .args .trace .now) (c .before .before .before .before .before .before .before .before .before .before .args .schedule .now) (c .before .before .before .before .before .before .before .before .before .before .args .held .now) (c .before .before .before .before .before .before .before .before .before .before .args .place) (c .before .before .before .before .before .before .before .before .before .before .pre .0) (c .before .before .before .before .schedule-within .result) (c .before .before .before .before .schedule-within .ensures) (c .before .before .t2 .given .0 .0) (c .before .before .t2 .given .0 .1 .0) (c .before .before .t2 .given .0 .1 .1 .0) (c .before .before .t2 .given .1) in let i = f .inside in (c .before .before .before .before .before .before .before .before .before .before .pre .0, omega arith, i, f .page-is)
+fetch-requires c κs =
+    let start = c .before .before .before .before .before .before .before .before .before .before in
+    let a = start .args .a in
+    let held = start .args .held .now in
+    let k = start .args .k in
+    let place = start .args .place in
+    let requests = start .args .requests in
+    let schedule = start .args .schedule .now in
+    let trace = start .args .trace .now in
+    let pre = start .pre in
+    let schedule-within = c .before .before .before .before .schedule-within in
+    let t2 = c .before .before .t2 in
+    let f = pf-fact k a requests trace schedule held place (pre .0) (schedule-within .result) (schedule-within .ensures) (t2 .given .0 .0) (t2 .given .0 .1 .0)
+    (t2 .given .0 .1 .1 .0) (t2 .given .1) in
+    let i = f .inside in (pre .0, omega arith, i, f .page-is)
 
 after-requires : tie.Need-after-requires
-after-requires c κs = let kept = c .before .before .before .fetch .kept .1 .1 .0 in sound-ready (c .before .before .before .before .before .before .before .before .before .before .before .before .before .before .args .k) (c .before .before .before .before .before .before .before .before .before .before .before .before .before .before .args .requests) _ (c .before .before .before .before .before .before .before .before .before .before .before .before .before .before .args .trace .now) (c .before .before .before .before .before .before .before .before .before .before .before .before .before .before .args .schedule .now) (c .before .before .before .fetch .last .1 .1 .0) (c .before .before .before .fetch .result) (c .before .before .before .fetch .ensures .1) (omega arith)
+after-requires c κs =
+    let start = c .before .before .before .before .before .before .before .before .before .before .before .before .before .before in
+    let k = start .args .k in
+    let requests = start .args .requests in
+    let schedule = start .args .schedule .now in
+    let trace = start .args .trace .now in
+    let fetch = c .before .before .before .fetch in
+    let kept = fetch .kept .1 .1 .0 in
+    sound-ready k requests _ trace schedule (fetch .last .1 .1 .0) (fetch .result) (fetch .ensures .1) (omega arith)
 
 finish-requires : tie.Need-finish-requires
-finish-requires c κs = (c .before .before .before .before .before .before .before .before .before .pre .0, omega arith)
+finish-requires c κs =
+    let pre = c .before .before .before .before .before .before .before .before .before .pre in
+    (pre .0, omega arith)
 
 returns : tie.Need-returns
-returns c = rw (c .turned .ensures) (ev-turn (c .before .before .before .before .before .before .before .before .before .before .before .before .before .before .args .k) (c .before .before .before .before .before .before .before .before .before .before .before .before .before .before .args .a) (c .before .before .before .before .before .before .before .before .before .before .before .before .before .before .args .requests) (c .before .before .before .before .before .before .before .before .before .before .before .before .before .before .args .trace .now) (c .before .before .before .before .before .before .before .before .before .before .before .before .before .before .args .schedule .now) (c .before .before .before .before .before .before .before .before .before .before .before .before .before .before .args .held .now) (c .before .before .before .before .before .before .before .before .before .before .before .before .before .before .args .place) (c .before .before .before .before .before .before .before .before .before .before .before .before .before .before .pre .0) (c .before .before .before .before .before .before .before .before .schedule-within .result) (c .before .before .before .before .before .before .before .before .schedule-within .ensures) (c .before .before .before .before .before .before .t .given .0 .0) (c .before .before .before .before .before .before .t .given .0 .1 .0) (c .before .before .before .before .before .before .t .given .0 .1 .1 .0) (c .before .before .before .before .before .before .t .given .0 .1 .1 .1 .0) (c .before .before .before .before .before .before .t .given .1) (c .before .before .before .bundle .result) (c .before .before .before .bundle .last .1 .1 .0) (c .before .before .before .bundle .ensures .0) (c .before .before .before .bundle .ensures .1))
+returns c =
+    let start = c .before .before .before .before .before .before .before .before .before .before .before .before .before .before in
+    let a = start .args .a in
+    let held = start .args .held .now in
+    let k = start .args .k in
+    let place = start .args .place in
+    let requests = start .args .requests in
+    let schedule = start .args .schedule .now in
+    let trace = start .args .trace .now in
+    let pre = start .pre in
+    let schedule-within = c .before .before .before .before .before .before .before .before .schedule-within in
+    let t = c .before .before .before .before .before .before .t in
+    let bundle = c .before .before .before .bundle in
+    rw (c .turned .ensures) (ev-turn k a requests trace schedule held place (pre .0) (schedule-within .result) (schedule-within .ensures) (t .given .0 .0)
+    (t .given .0 .1 .0) (t .given .0 .1 .1 .0) (t .given .0 .1 .1 .1 .0) (t .given .1) (bundle .result) (bundle .last .1 .1 .0) (bundle .ensures .0)
+    (bundle .ensures .1))
 
 returns-2 : tie.Need-returns-2
-returns-2 c = rw (c .turned2 .ensures) (pfs-turn (c .before .before .before .before .before .before .before .before .before .before .before .before .before .before .before .before .args .k) (c .before .before .before .before .before .before .before .before .before .before .before .before .before .before .before .before .args .a) (c .before .before .before .before .before .before .before .before .before .before .before .before .before .before .before .before .args .requests) (c .before .before .before .before .before .before .before .before .before .before .before .before .before .before .before .before .args .trace .now) (c .before .before .before .before .before .before .before .before .before .before .before .before .before .before .before .before .args .schedule .now) (c .before .before .before .before .before .before .before .before .before .before .before .before .before .before .before .before .args .held .now) (c .before .before .before .before .before .before .before .before .before .before .before .before .before .before .before .before .args .place) (c .before .before .before .before .before .before .before .before .before .before .before .before .before .before .before .before .pre .0) (c .before .before .before .before .before .before .before .before .before .before .schedule-within .result) (c .before .before .before .before .before .before .before .before .before .before .schedule-within .ensures) (c .before .before .before .before .before .before .before .before .t2 .given .0 .0) (c .before .before .before .before .before .before .before .before .t2 .given .0 .1 .0) (c .before .before .before .before .before .before .before .before .t2 .given .0 .1 .1 .0) (c .before .before .before .before .before .before .before .before .t2 .given .1) (c .before .before .before .before .before .fetch .result) (c .before .after .result) (c .before .before .before .before .before .fetch .last .1 .1 .0) (c .before .before .before .before .before .fetch .ensures .0) (c .before .before .before .before .before .fetch .ensures .1) (c .before .after .ensures))
+returns-2 c =
+    let start = c .before .before .before .before .before .before .before .before .before .before .before .before .before .before .before .before in
+    let a = start .args .a in
+    let held = start .args .held .now in
+    let k = start .args .k in
+    let place = start .args .place in
+    let requests = start .args .requests in
+    let schedule = start .args .schedule .now in
+    let trace = start .args .trace .now in
+    let pre = start .pre in
+    let schedule-within = c .before .before .before .before .before .before .before .before .before .before .schedule-within in
+    let t2 = c .before .before .before .before .before .before .before .before .t2 in
+    let fetch = c .before .before .before .before .before .fetch in
+    let after = c .before .after in
+    rw (c .turned2 .ensures) (pfs-turn k a requests trace schedule held place (pre .0) (schedule-within .result) (schedule-within .ensures) (t2 .given .0 .0)
+    (t2 .given .0 .1 .0) (t2 .given .0 .1 .1 .0) (t2 .given .1) (fetch .result) (after .result) (fetch .last .1 .1 .0) (fetch .ensures .0) (fetch .ensures .1)
+    (after .ensures))
 
 returns-3 : tie.Need-returns-3
-returns-3 c = (end-turn (c .before .before .before .before .before .before .before .before .before .before .before .before .args .k) (c .before .before .before .before .before .before .before .before .before .before .before .before .args .a) (c .before .before .before .before .before .before .before .before .before .before .before .before .args .requests) (c .before .before .before .before .before .before .before .before .before .before .before .before .args .trace .now) (c .before .before .before .before .before .before .before .before .before .before .before .before .args .schedule .now) (c .before .before .before .before .before .before .before .before .before .before .before .before .args .held .now) (c .before .before .before .before .before .before .before .before .before .before .before .before .args .place) (c .before .before .before .before .before .before .before .before .before .before .before .before .pre .0) (c .before .before .before .before .before .before .schedule-within .result) (c .before .before .before .before .before .before .schedule-within .ensures) _ (c .before .before .before .before .enum-told .given .1) (c .before .before .finish .ensures .0), c .before .before .finish .ensures .1)
+returns-3 c =
+    let start = c .before .before .before .before .before .before .before .before .before .before .before .before in
+    let a = start .args .a in
+    let held = start .args .held .now in
+    let k = start .args .k in
+    let place = start .args .place in
+    let requests = start .args .requests in
+    let schedule = start .args .schedule .now in
+    let trace = start .args .trace .now in
+    let pre = start .pre in
+    let schedule-within = c .before .before .before .before .before .before .schedule-within in
+    let enum-told = c .before .before .before .before .enum-told in
+    let finish = c .before .before .finish in (
+      end-turn k a requests trace schedule held place (pre .0) (schedule-within .result) (schedule-within .ensures) _ (enum-told .given .1) (finish .ensures .0),
+      finish .ensures .1,
+    )
 
 returns-4 : tie.Need-returns-4
-returns-4 c = (refused-turn (c .before .before .before .before .before .before .before .before .before .args .k) (c .before .before .before .before .before .before .before .before .before .args .a) (c .before .before .before .before .before .before .before .before .before .args .requests) (c .before .before .before .before .before .before .before .before .before .args .trace .now) (c .before .before .before .before .before .before .before .before .before .args .schedule .now) (c .before .before .before .before .before .before .before .before .before .args .held .now) (c .before .before .before .before .before .before .before .before .before .args .place) (c .before .before .before .before .before .before .before .before .before .pre .0) (c .before .before .before .schedule-within .result) (c .before .before .before .schedule-within .ensures) (c .before .number .given .0 .0) (c .before .number .given .1), tt)
+returns-4 c =
+    let start = c .before .before .before .before .before .before .before .before .before in
+    let a = start .args .a in
+    let held = start .args .held .now in
+    let k = start .args .k in
+    let place = start .args .place in
+    let requests = start .args .requests in
+    let schedule = start .args .schedule .now in
+    let trace = start .args .trace .now in
+    let pre = start .pre in
+    let schedule-within = c .before .before .before .schedule-within in
+    let number = c .before .number in
+    (refused-turn k a requests trace schedule held place (pre .0) (schedule-within .result) (schedule-within .ensures) (number .given .0 .0) (number .given .1), tt)
 
 returns-5 : tie.Need-returns-5
-returns-5 c = absurd (sizes-turn (c .before .before .before .before .before .before .before .before .args .k) (c .before .before .before .before .before .before .before .before .args .a) (c .before .before .before .before .before .before .before .before .args .requests) (c .before .before .before .before .before .before .before .before .args .trace .now) (c .before .before .before .before .before .before .before .before .args .schedule .now) (c .before .before .before .before .before .before .before .before .args .held .now) (c .before .before .before .before .before .before .before .before .args .place) (c .before .before .before .before .before .before .before .before .pre .0) (c .before .before .schedule-within .result) (c .before .before .schedule-within .ensures) _ _ _ (c .enum-told2 .given .1))
+returns-5 c =
+    let start = c .before .before .before .before .before .before .before .before in
+    let a = start .args .a in
+    let held = start .args .held .now in
+    let k = start .args .k in
+    let place = start .args .place in
+    let requests = start .args .requests in
+    let schedule = start .args .schedule .now in
+    let trace = start .args .trace .now in
+    let pre = start .pre in
+    let schedule-within = c .before .before .schedule-within in
+    absurd (sizes-turn k a requests trace schedule held place (pre .0) (schedule-within .result) (schedule-within .ensures) _ _ _ (c .enum-told2 .given .1))
 
 pub next-record-spec : {M : Type 1} → statement M
 next-record-spec =

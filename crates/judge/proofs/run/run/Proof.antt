@@ -10,28 +10,74 @@ use Rattle.judge.proofs.run.run.Statement.{statement}
 use Rattle.judge.proofs.run.run.Tie as tie
 
 abbrev Inv-loop : tie.InvT-loop
-Inv-loop trace schedule held₀ k a requests place₀ held place = Sound k requests trace schedule place × (length held ≡ length held₀) × (placeAnswer k a trace schedule held place ≡ placeAnswer k a trace schedule held₀ place₀)
+Inv-loop trace schedule held₀ k a requests place₀ held place = Sound k requests trace schedule place × (length held ≡ length held₀) ×
+    (placeAnswer k a trace schedule held place ≡ placeAnswer k a trace schedule held₀ place₀)
 
 abbrev μ-loop : tie.MeasureT-loop
 μ-loop trace schedule held₀ k a requests place₀ held place = length schedule - (place .from + 10 * place .fetches)
 
 loop-holds : tie.Need-loop-holds Inv-loop μ-loop
-loop-holds c = (c .before .before .before .pre .0, refl, refl)
+loop-holds c =
+    let pre = c .before .before .before .pre in
+    (pre .0, refl, refl)
 
 next-record-requires : tie.Need-next-record-requires Inv-loop μ-loop
-next-record-requires c κs = let l = c .before .loop .inv .1 in (c .before .loop .inv .0, omega arith)
+next-record-requires c κs =
+    let inv = c .before .loop .inv in
+    let l = inv .1 in (inv .0, omega arith)
 
 loop-less : tie.Need-loop-less Inv-loop μ-loop
-loop-less c = let d = run-again (c .before .before .before .before .before .before .before .before .before .before .before .args .k) (c .before .before .before .before .before .before .before .before .before .before .before .args .a) (c .before .before .before .before .before .before .before .before .before .before .before .args .requests) (c .before .before .before .before .before .before .before .before .before .before .before .args .trace .now) (c .before .before .before .before .before .before .before .before .before .before .before .args .schedule .now) (c .before .before .before .before .before .next-record .last .1 .1 .0) (c .before .before .before .before .before .before .before .loop .place) (c .before .next .given .0 .0) (c .before .before .before .before .before .next-record .result) _ (c .before .next .given .1) (c .before .before .before .before .before .next-record .ensures .0) (c .before .before .before .before .before .next-record .ensures .1) .1 in let f = d .further in let i = d .sound .inside in omega arith
+loop-less c =
+    let start = c .before .before .before .before .before .before .before .before .before .before .before in
+    let a = start .args .a in
+    let k = start .args .k in
+    let requests = start .args .requests in
+    let schedule = start .args .schedule .now in
+    let trace = start .args .trace .now in
+    let place = c .before .before .before .before .before .before .before .loop .place in
+    let next-record = c .before .before .before .before .before .next-record in
+    let next = c .before .next in
+    let d = run-again k a requests trace schedule (next-record .last .1 .1 .0) place (next .given .0 .0) (next-record .result) _ (next .given .1)
+    (next-record .ensures .0) (next-record .ensures .1) .1 in
+    let f = d .further in let i = d .sound .inside in omega arith
 
 loop-again : tie.Need-loop-again Inv-loop μ-loop
-loop-again c = let d = run-again (c .before .before .before .before .before .before .before .before .before .before .before .args .k) (c .before .before .before .before .before .before .before .before .before .before .before .args .a) (c .before .before .before .before .before .before .before .before .before .before .before .args .requests) (c .before .before .before .before .before .before .before .before .before .before .before .args .trace .now) (c .before .before .before .before .before .before .before .before .before .before .before .args .schedule .now) (c .before .before .before .before .before .next-record .last .1 .1 .0) (c .before .before .before .before .before .before .before .loop .place) (c .before .next .given .0 .0) (c .before .before .before .before .before .next-record .result) _ (c .before .next .given .1) (c .before .before .before .before .before .next-record .ensures .0) (c .before .before .before .before .before .next-record .ensures .1) in (d .1 .sound, c .before .before .before .before .before .next-record .kept .1 .1 .0 ∙ c .before .before .before .before .before .before .before .loop .inv .1, d .0 ∙ c .before .before .before .before .before .before .before .loop .inv .2)
+loop-again c =
+    let start = c .before .before .before .before .before .before .before .before .before .before .before in
+    let a = start .args .a in
+    let k = start .args .k in
+    let requests = start .args .requests in
+    let schedule = start .args .schedule .now in
+    let trace = start .args .trace .now in
+    let inv = c .before .before .before .before .before .before .before .loop .inv in
+    let place = c .before .before .before .before .before .before .before .loop .place in
+    let next-record = c .before .before .before .before .before .next-record in
+    let next = c .before .next in
+    let d = run-again k a requests trace schedule (next-record .last .1 .1 .0) place (next .given .0 .0) (next-record .result) _ (next .given .1)
+    (next-record .ensures .0) (next-record .ensures .1) in
+    (d .1 .sound, next-record .kept .1 .1 .0 ∙ inv .1, d .0 ∙ inv .2)
 
 same-length : tie.Need-same-length Inv-loop μ-loop
-same-length c = c .before .before .before .before .before .next-record .kept .1 .1 .0 ∙ c .before .before .before .before .before .before .before .loop .inv .1
+same-length c =
+    let inv = c .before .before .before .before .before .before .before .loop .inv in
+    let next-record = c .before .before .before .before .before .next-record in
+    next-record .kept .1 .1 .0 ∙ inv .1
 
 returns : tie.Need-returns Inv-loop μ-loop
-returns c = let d = run-done (c .before .before .before .before .before .before .before .before .before .before .before .args .k) (c .before .before .before .before .before .before .before .before .before .before .before .args .a) (c .before .before .before .before .before .before .before .before .before .before .before .args .requests) (c .before .before .before .before .before .before .before .before .before .before .before .args .trace .now) (c .before .before .before .before .before .before .before .before .before .before .before .args .schedule .now) (c .before .before .before .before .before .next-record .last .1 .1 .0) (c .before .before .before .before .before .before .before .loop .place) (c .before .verdict .given .0 .0) (c .before .before .before .before .before .next-record .result) _ (c .before .verdict .given .1) (c .before .before .before .before .before .next-record .ensures .0) (c .before .before .before .before .before .next-record .ensures .1) in (d .0 ∙ c .before .before .before .before .before .before .before .loop .inv .2, d .1)
+returns c =
+    let start = c .before .before .before .before .before .before .before .before .before .before .before in
+    let a = start .args .a in
+    let k = start .args .k in
+    let requests = start .args .requests in
+    let schedule = start .args .schedule .now in
+    let trace = start .args .trace .now in
+    let inv = c .before .before .before .before .before .before .before .loop .inv in
+    let place = c .before .before .before .before .before .before .before .loop .place in
+    let next-record = c .before .before .before .before .before .next-record in
+    let verdict = c .before .verdict in
+    let d = run-done k a requests trace schedule (next-record .last .1 .1 .0) place (verdict .given .0 .0) (next-record .result) _ (verdict .given .1)
+    (next-record .ensures .0) (next-record .ensures .1) in
+    (d .0 ∙ inv .2, d .1)
 
 pub run-spec : {M : Type 1} → statement M
 run-spec =

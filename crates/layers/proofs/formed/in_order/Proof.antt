@@ -17,97 +17,71 @@ Inv-loop pages numbers i₀ i =
 abbrev μ-loop : tie.MeasureT-loop
 μ-loop pages numbers i₀ i = length pages - i
 
--- src/formed.rt:45:9
 returns : tie.Need-returns Inv-loop μ-loop
-returns c = order-none (c .before .before .before .args .numbers .now) (c .before .before .before .args .pages .now) (c .before .before .before .pre) (c .if1 .taken)
+returns c =
+    let start = c .before .before .before in
+    let numbers = start .args .numbers .now in
+    let pages = start .args .pages .now in
+    let pre = start .pre in
+    order-none numbers pages pre (c .if1 .taken)
 
--- src/formed.rt:47:21
 shared-slice-read-used-or-zero : tie.Need-shared-slice-read-used-or-zero Inv-loop μ-loop
 shared-slice-read-used-or-zero c = let n = c .before .if1 .left in omega (arith, n)
 
--- src/formed.rt:47:33
 shared-slice-read-used-or-zero-2 : tie.Need-shared-slice-read-used-or-zero-2 Inv-loop μ-loop
-shared-slice-read-used-or-zero-2 c = let n = c .before .before .if1 .left in omega (arith, n)
+shared-slice-read-used-or-zero-2 c =
+    let if1 = c .before .before .if1 in
+    let n = if1 .left in omega (arith, n)
 
--- src/formed.rt:47:8
-used-or-zero-requires : tie.Need-used-or-zero-requires Inv-loop μ-loop
-used-or-zero-requires c κs = search needs
-
--- src/formed.rt:49:9
 loop-holds : tie.Need-loop-holds Inv-loop μ-loop
 loop-holds c =
-    let n = c .before .before .before .before .if1 .left in
-    (omega arith, omega (arith, n), order-first (c .before .before .before .before .before .before .before .args .numbers .now) (c .before .before .before .before .before .before .before .args .pages .now) (c .before .before .before .before .before .before .before .pre) _ (omega (arith, n)) (c .before .used-or-zero .ensures) (c .if2 .taken))
+    let start = c .before .before .before .before .before .before .before in
+    let numbers = start .args .numbers .now in
+    let pages = start .args .pages .now in
+    let pre = start .pre in
+    let if1 = c .before .before .before .before .if1 in
+    let n = if1 .left in
+    (omega arith, omega (arith, n), order-first numbers pages pre _ (omega (arith, n)) (c .before .used-or-zero .ensures) (c .if2 .taken))
 
--- src/formed.rt:50:35
-sub-may-follow : tie.Need-sub-may-follow Inv-loop μ-loop
-sub-may-follow c = search needs
-
--- src/formed.rt:50:27
-mul-may-follow : tie.Need-mul-may-follow Inv-loop μ-loop
-mul-may-follow c = search needs
-
--- src/formed.rt:50:27
-shared-slice-read-may-follow : tie.Need-shared-slice-read-may-follow Inv-loop μ-loop
-shared-slice-read-may-follow c = search needs
-
--- src/formed.rt:50:49
-sub-may-follow-2 : tie.Need-sub-may-follow-2 Inv-loop μ-loop
-sub-may-follow-2 c = search needs
-
--- src/formed.rt:50:43
-mul-may-follow-2 : tie.Need-mul-may-follow-2 Inv-loop μ-loop
-mul-may-follow-2 c = search needs
-
--- src/formed.rt:50:43
-shared-slice-read-may-follow-2 : tie.Need-shared-slice-read-may-follow-2 Inv-loop μ-loop
-shared-slice-read-may-follow-2 c = search needs
-
--- src/formed.rt:50:57
-mul-may-follow-3 : tie.Need-mul-may-follow-3 Inv-loop μ-loop
-mul-may-follow-3 c = search needs
-
--- src/formed.rt:50:57
-shared-slice-read-may-follow-3 : tie.Need-shared-slice-read-may-follow-3 Inv-loop μ-loop
-shared-slice-read-may-follow-3 c = search needs
-
--- src/formed.rt:50:69
-mul-may-follow-4 : tie.Need-mul-may-follow-4 Inv-loop μ-loop
-mul-may-follow-4 c = search needs
-
--- src/formed.rt:50:69
-shared-slice-read-may-follow-4 : tie.Need-shared-slice-read-may-follow-4 Inv-loop μ-loop
-shared-slice-read-may-follow-4 c = search needs
-
--- src/formed.rt:50:16
-may-follow-requires : tie.Need-may-follow-requires Inv-loop μ-loop
-may-follow-requires c κs = search needs
-
--- src/formed.rt:51:17
-add-i : tie.Need-add-i Inv-loop μ-loop
-add-i c = search needs
-
--- src/formed.rt:49:9
-loop-less : tie.Need-loop-less Inv-loop μ-loop
-loop-less c = search needs
-
--- src/formed.rt:49:9
 loop-again : tie.Need-loop-again Inv-loop μ-loop
-loop-again c = (omega arith, omega arith, order-next (c .before .before .before .before .before .before .before .before .before .before .before .before .before .before .before .args .numbers .now) (c .before .before .before .before .before .before .before .before .before .before .before .before .before .before .before .args .pages .now) (c .before .before .before .before .before .before .before .before .before .before .before .before .before .before .before .pre) (c .before .before .before .before .before .before .before .loop .i) (c .before .before .before .before .before .before .loop-test .taken) _ (c .before .may-follow .ensures) (c .before .before .before .before .before .before .before .loop .inv .2) (c .if3 .taken))
+loop-again c =
+    let start = c .before .before .before .before .before .before .before .before .before .before .before .before .before .before .before in
+    let numbers = start .args .numbers .now in
+    let pages = start .args .pages .now in
+    let pre = start .pre in
+    let i = c .before .before .before .before .before .before .before .loop .i in
+    let inv = c .before .before .before .before .before .before .before .loop .inv in
+    let loop-test = c .before .before .before .before .before .before .loop-test in
+    (omega arith, omega arith, order-next numbers pages pre i (loop-test .taken) _ (c .before .may-follow .ensures) (inv .2) (c .if3 .taken))
 
--- src/formed.rt:53:17
 returns-2 : tie.Need-returns-2 Inv-loop μ-loop
-returns-2 c = order-bad (c .before .before .before .before .before .before .before .before .before .before .before .before .before .before .before .args .numbers .now) (c .before .before .before .before .before .before .before .before .before .before .before .before .before .before .before .args .pages .now) (c .before .before .before .before .before .before .before .before .before .before .before .before .before .before .before .pre) (c .before .before .before .before .before .before .before .loop .i) (c .before .before .before .before .before .before .loop-test .taken) _ (c .before .may-follow .ensures) (c .before .before .before .before .before .before .before .loop .inv .2) (c .if3 .left)
+returns-2 c =
+    let start = c .before .before .before .before .before .before .before .before .before .before .before .before .before .before .before in
+    let numbers = start .args .numbers .now in
+    let pages = start .args .pages .now in
+    let pre = start .pre in
+    let i = c .before .before .before .before .before .before .before .loop .i in
+    let inv = c .before .before .before .before .before .before .before .loop .inv in
+    let loop-test = c .before .before .before .before .before .before .loop-test in
+    order-bad numbers pages pre i (loop-test .taken) _ (c .before .may-follow .ensures) (inv .2) (c .if3 .left)
 
--- src/formed.rt:56:9
 returns-3 : tie.Need-returns-3 Inv-loop μ-loop
-returns-3 c = order-end (c .before .before .before .before .before .before .before .before .before .args .numbers .now) (c .before .before .before .before .before .before .before .before .before .args .pages .now) (c .before .before .before .before .before .before .before .before .before .pre) (c .before .loop .i) _ (c .loop-test .left) (c .before .loop .inv .2)
+returns-3 c =
+    let start = c .before .before .before .before .before .before .before .before .before in
+    let numbers = start .args .numbers .now in
+    let pages = start .args .pages .now in
+    let pre = start .pre in
+    order-end numbers pages pre (c .before .loop .i) _ (c .loop-test .left) (c .before .loop .inv .2)
 
--- src/formed.rt:40:1
 returns-4 : tie.Need-returns-4 Inv-loop μ-loop
 returns-4 c =
-    let n = c .before .before .before .before .if1 .left in
-    order-first-bad (c .before .before .before .before .before .before .before .args .numbers .now) (c .before .before .before .before .before .before .before .args .pages .now) (c .before .before .before .before .before .before .before .pre) _ (omega (arith, n)) (c .before .used-or-zero .ensures) (c .if2 .left)
+    let start = c .before .before .before .before .before .before .before in
+    let numbers = start .args .numbers .now in
+    let pages = start .args .pages .now in
+    let pre = start .pre in
+    let if1 = c .before .before .before .before .if1 in
+    let n = if1 .left in
+    order-first-bad numbers pages pre _ (omega (arith, n)) (c .before .used-or-zero .ensures) (c .if2 .left)
 
 pub in-order-spec : {M : Type 1} → statement M
 in-order-spec =
@@ -118,21 +92,21 @@ in-order-spec =
     returns
     shared-slice-read-used-or-zero
     shared-slice-read-used-or-zero-2
-    used-or-zero-requires
+    (λ c κs. search needs)
     loop-holds
-    sub-may-follow
-    mul-may-follow
-    shared-slice-read-may-follow
-    sub-may-follow-2
-    mul-may-follow-2
-    shared-slice-read-may-follow-2
-    mul-may-follow-3
-    shared-slice-read-may-follow-3
-    mul-may-follow-4
-    shared-slice-read-may-follow-4
-    may-follow-requires
-    add-i
-    loop-less
+    (λ c. search needs)
+    (λ c. search needs)
+    (λ c. search needs)
+    (λ c. search needs)
+    (λ c. search needs)
+    (λ c. search needs)
+    (λ c. search needs)
+    (λ c. search needs)
+    (λ c. search needs)
+    (λ c. search needs)
+    (λ c κs. search needs)
+    (λ c. search needs)
+    (λ c. search needs)
     loop-again
     returns-2
     returns-3

@@ -13,37 +13,35 @@ Inv-loop sizes limit s i₀ i = (i ≤ s) × (singleIn limit s sizes ≡ singleI
 abbrev μ-loop : tie.MeasureT-loop
 μ-loop sizes limit s i₀ i = i
 
--- src/formed.rt:134:5
-loop-holds : tie.Need-loop-holds Inv-loop μ-loop
-loop-holds c = search needs
-
--- src/formed.rt:135:12
-mul-if1 : tie.Need-mul-if1 Inv-loop μ-loop
-mul-if1 c = search needs
-
--- src/formed.rt:135:12
-element-copy-out-if1 : tie.Need-element-copy-out-if1 Inv-loop μ-loop
-element-copy-out-if1 c = search needs
-
--- src/formed.rt:136:13
 returns : tie.Need-returns Inv-loop μ-loop
-returns c = single-bad (c .before .before .before .before .args .limit) (c .before .before .before .before .args .s) (c .before .before .before .loop .i) (c .before .before .before .before .args .sizes .now) (c .before .before .loop-test .taken) (c .before .before .before .loop .inv .1) (c .if1 .taken)
+returns c =
+    let start = c .before .before .before .before in
+    let limit = start .args .limit in
+    let s = start .args .s in
+    let sizes = start .args .sizes .now in
+    let i = c .before .before .before .loop .i in
+    let inv = c .before .before .before .loop .inv in
+    let loop-test = c .before .before .loop-test in
+    single-bad limit s i sizes (loop-test .taken) (inv .1) (c .if1 .taken)
 
--- src/formed.rt:138:9
-sub-i : tie.Need-sub-i Inv-loop μ-loop
-sub-i c = search needs
-
--- src/formed.rt:134:5
-loop-less : tie.Need-loop-less Inv-loop μ-loop
-loop-less c = search needs
-
--- src/formed.rt:134:5
 loop-again : tie.Need-loop-again Inv-loop μ-loop
-loop-again c = (omega arith, single-next (c .before .before .before .before .args .limit) (c .before .before .before .before .args .s) (c .before .before .before .loop .i) (c .before .before .before .before .args .sizes .now) (c .before .before .loop-test .taken) (c .before .before .before .loop .inv .1) (c .if1 .left))
+loop-again c =
+    let start = c .before .before .before .before in
+    let limit = start .args .limit in
+    let s = start .args .s in
+    let sizes = start .args .sizes .now in
+    let i = c .before .before .before .loop .i in
+    let inv = c .before .before .before .loop .inv in
+    let loop-test = c .before .before .loop-test in
+    (omega arith, single-next limit s i sizes (loop-test .taken) (inv .1) (c .if1 .left))
 
--- src/formed.rt:129:1
 returns-2 : tie.Need-returns-2 Inv-loop μ-loop
-returns-2 c = single-end (c .before .before .args .limit) (c .before .before .args .s) (c .before .loop .i) (c .before .before .args .sizes .now) (c .loop-test .left) (c .before .loop .inv .1)
+returns-2 c =
+    let start = c .before .before in
+    let limit = start .args .limit in
+    let s = start .args .s in
+    let sizes = start .args .sizes .now in
+    single-end limit s (c .before .loop .i) sizes (c .loop-test .left) (c .before .loop .inv .1)
 
 pub single-above-spec : {M : Type 1} → statement M
 single-above-spec =
@@ -51,11 +49,11 @@ single-above-spec =
     (tie.spec
     Inv-loop
     μ-loop
-    loop-holds
-    mul-if1
-    element-copy-out-if1
+    (λ c. search needs)
+    (λ c. search needs)
+    (λ c. search needs)
     returns
-    sub-i
-    loop-less
+    (λ c. search needs)
+    (λ c. search needs)
     loop-again
     returns-2)

@@ -2,11 +2,9 @@ use Rattle.layers.proofs.Reading.{zero-place, used-place}
 use Rattle.layers.proofs.formed.used_or_zero.Statement.{statement}
 use Rattle.layers.proofs.formed.used_or_zero.Tie as tie
 
--- src/formed.rt:21:9
 returns : tie.Need-returns
 returns c = zero-place (c .before .args .n) (c .before .args .p) (c .if1 .taken)
 
--- src/formed.rt:17:1
 returns-2 : tie.Need-returns-2
 returns-2 c = used-place (c .before .args .n) (c .before .args .p) (c .if1 .left)
 

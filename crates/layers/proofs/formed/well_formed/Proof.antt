@@ -9,59 +9,70 @@ use Rattle.layers.proofs.WellFormed.{ill-formed, used-pages, used-most,
 use Rattle.layers.proofs.formed.well_formed.Statement.{statement}
 use Rattle.layers.proofs.formed.well_formed.Tie as tie
 
--- src/formed.rt:171:9
 returns : tie.Need-returns
-returns c = ill-formed (c .before .before .before .before .args .run) _ _ (lt-leb _ _ (c .if1 .taken)) (λ f. f .counted)
+returns c =
+    let run = c .before .before .before .before .args .run in
+    ill-formed run _ _ (lt-leb _ _ (c .if1 .taken)) (λ f. f .counted)
 
--- src/formed.rt:174:9
 returns-2 : tie.Need-returns-2
-returns-2 c = ill-formed (c .before .before .before .before .before .before .args .run) _ _ (lt-leb _ _ (c .if2 .taken)) (λ f. f .s-low)
+returns-2 c =
+    let run = c .before .before .before .before .before .before .args .run in
+    ill-formed run _ _ (lt-leb _ _ (c .if2 .taken)) (λ f. f .s-low)
 
--- src/formed.rt:176:8
-in-order-requires : tie.Need-in-order-requires
-in-order-requires c κs = search needs
-
--- src/formed.rt:178:9
 returns-3 : tie.Need-returns-3
-returns-3 c = ill-formed (c .before .before .before .before .before .before .before .before .args .run) _ _ (sym (c .before .in-order .ensures) ∙ c .if3 .left) (λ f. f .in-order)
+returns-3 c =
+    let run = c .before .before .before .before .before .before .before .before .args .run in
+    ill-formed run _ _ (sym (c .before .in-order .ensures) ∙ c .if3 .left) (λ f. f .in-order)
 
--- src/formed.rt:180:9
-used-requires : tie.Need-used-requires
-used-requires c κs = search needs
-
--- src/formed.rt:181:29
 slice-aggregate-no-page-twice : tie.Need-slice-aggregate-no-page-twice
-slice-aggregate-no-page-twice c = sym (length-take-le (c .before .used .result) (c .before .before .before .before .before .before .before .before .before .before .args .pages .now) (omega (arith, used-most (c .before .before .before .before .before .before .before .before .before .before .args .numbers .now) (c .before .used .result) (c .before .used .ensures))))
+slice-aggregate-no-page-twice c =
+    let start = c .before .before .before .before .before .before .before .before .before .before in
+    let numbers = start .args .numbers .now in
+    let pages = start .args .pages .now in
+    let used = c .before .used in
+    sym (length-take-le (used .result) pages (omega (arith, used-most numbers (used .result) (used .ensures))))
 
--- src/formed.rt:181:8
-no-page-twice-requires : tie.Need-no-page-twice-requires
-no-page-twice-requires c κs = search needs
-
--- src/formed.rt:183:9
 returns-4 : tie.Need-returns-4
 returns-4 c =
-    let parts = used-pages (c .before .before .before .before .before .before .before .before .before .before .before .before .args .numbers .now) (c .before .before .before .before .before .before .before .before .before .before .before .before .args .pages .now) (c .before .before .before .used .result) (c .before .before .before .before .before .before .before .before .before .before .before .before .pre .0) (c .before .before .before .used .ensures) (sym (c .before .before .before .before .before .in-order .ensures) ∙ c .before .before .before .before .if3 .taken) in
-    ill-formed (c .before .before .before .before .before .before .before .before .before .before .before .before .args .run) (rowsOf (c .before .before .before .before .before .before .before .before .before .before .before .before .args .numbers .now) (c .before .before .before .before .before .before .before .before .before .before .before .before .args .pages .now)) _ (sym (c .before .no-page-twice .ensures ∙ ap distinct parts) ∙ c .if4 .left) (λ f. f .once)
+    let start = c .before .before .before .before .before .before .before .before .before .before .before .before in
+    let numbers = start .args .numbers .now in
+    let pages = start .args .pages .now in
+    let run = start .args .run in
+    let pre = start .pre in
+    let in-order = c .before .before .before .before .before .in-order in
+    let if3 = c .before .before .before .before .if3 in
+    let used = c .before .before .before .used in
+    let parts = used-pages numbers pages (used .result) (pre .0) (used .ensures) (sym (in-order .ensures) ∙ if3 .taken) in
+    ill-formed run (rowsOf numbers pages) _ (sym (c .before .no-page-twice .ensures ∙ ap distinct parts) ∙ c .if4 .left) (λ f. f .once)
 
--- src/formed.rt:185:8
-none-above-requires : tie.Need-none-above-requires
-none-above-requires c κs = search needs
-
--- src/formed.rt:187:9
 returns-5 : tie.Need-returns-5
-returns-5 c = ill-formed (c .before .before .before .before .before .before .before .before .before .before .before .before .before .before .args .run) (rowsOf (c .before .before .before .before .before .before .before .before .before .before .before .before .before .before .args .numbers .now) (c .before .before .before .before .before .before .before .before .before .before .before .before .before .before .args .pages .now)) _ (sym (c .before .none-above .ensures ∙ above-numbers (c .before .before .before .before .before .before .before .before .before .before .before .before .before .before .args .numbers .now) (c .before .before .before .before .before .before .before .before .before .before .before .before .before .before .args .pages .now) _ (c .before .before .before .before .before .before .before .before .before .before .before .before .before .before .pre .0)) ∙ c .if5 .left) (λ f. f .none-higher)
+returns-5 c =
+    let start = c .before .before .before .before .before .before .before .before .before .before .before .before .before .before in
+    let numbers = start .args .numbers .now in
+    let pages = start .args .pages .now in
+    let run = start .args .run in
+    let pre = start .pre in
+    ill-formed run (rowsOf numbers pages) _ (sym (c .before .none-above .ensures ∙ above-numbers numbers pages _ (pre .0)) ∙ c .if5 .left) (λ f. f .none-higher)
 
--- src/formed.rt:189:5
-layers-sized-requires : tie.Need-layers-sized-requires
-layers-sized-requires c κs = search needs
-
--- src/formed.rt:166:1
 returns-6 : tie.Need-returns-6
 returns-6 c =
-    let parts = used-pages (c .before .before .before .before .before .before .before .before .before .before .before .before .before .before .before .args .numbers .now) (c .before .before .before .before .before .before .before .before .before .before .before .before .before .before .before .args .pages .now) (c .before .before .before .before .before .before .used .result) (c .before .before .before .before .before .before .before .before .before .before .before .before .before .before .before .pre .0) (c .before .before .before .before .before .before .used .ensures) (sym (c .before .before .before .before .before .before .before .before .in-order .ensures) ∙ c .before .before .before .before .before .before .before .if3 .taken) in
-    c .layers-sized .ensures ∙ sized-numbers (c .before .before .before .before .before .before .before .before .before .before .before .before .before .before .before .args .run) (c .before .before .before .before .before .before .before .before .before .before .before .before .before .before .before .args .numbers .now) (c .before .before .before .before .before .before .before .before .before .before .before .before .before .before .before .args .pages .now) (c .before .before .before .before .before .before .before .before .before .before .before .before .before .before .before .pre .0)
-    ∙ formed-sized (c .before .before .before .before .before .before .before .before .before .before .before .before .before .before .before .args .run) (rowsOf (c .before .before .before .before .before .before .before .before .before .before .before .before .before .before .before .args .numbers .now) (c .before .before .before .before .before .before .before .before .before .before .before .before .before .before .before .args .pages .now)) (c .before .before .before .before .before .before .before .before .before .before .before .if1 .left) (sym (c .before .before .before .before .no-page-twice .ensures ∙ ap distinct parts) ∙ c .before .before .before .if4 .taken) (sym (c .before .before .before .before .before .before .before .before .in-order .ensures) ∙ c .before .before .before .before .before .before .before .if3 .taken)
-    (sym (c .before .before .none-above .ensures ∙ above-numbers (c .before .before .before .before .before .before .before .before .before .before .before .before .before .before .before .args .numbers .now) (c .before .before .before .before .before .before .before .before .before .before .before .before .before .before .before .args .pages .now) _ (c .before .before .before .before .before .before .before .before .before .before .before .before .before .before .before .pre .0)) ∙ c .before .if5 .taken) (c .before .before .before .before .before .before .before .before .before .if2 .left)
+    let start = c .before .before .before .before .before .before .before .before .before .before .before .before .before .before .before in
+    let numbers = start .args .numbers .now in
+    let pages = start .args .pages .now in
+    let run = start .args .run in
+    let pre = start .pre in
+    let if1 = c .before .before .before .before .before .before .before .before .before .before .before .if1 in
+    let if2 = c .before .before .before .before .before .before .before .before .before .if2 in
+    let in-order = c .before .before .before .before .before .before .before .before .in-order in
+    let if3 = c .before .before .before .before .before .before .before .if3 in
+    let used = c .before .before .before .before .before .before .used in
+    let no-page-twice = c .before .before .before .before .no-page-twice in
+    let if4 = c .before .before .before .if4 in
+    let none-above = c .before .before .none-above in
+    let parts = used-pages numbers pages (used .result) (pre .0) (used .ensures) (sym (in-order .ensures) ∙ if3 .taken) in
+    c .layers-sized .ensures ∙ sized-numbers run numbers pages (pre .0)
+    ∙ formed-sized run (rowsOf numbers pages) (if1 .left) (sym (no-page-twice .ensures ∙ ap distinct parts) ∙ if4 .taken) (sym (in-order .ensures) ∙ if3 .taken)
+    (sym (none-above .ensures ∙ above-numbers numbers pages _ (pre .0)) ∙ c .before .if5 .taken) (if2 .left)
 
 pub well-formed-spec : {M : Type 1} → statement M
 well-formed-spec =
@@ -69,13 +80,13 @@ well-formed-spec =
     (tie.spec
     returns
     returns-2
-    in-order-requires
+    (λ c κs. search needs)
     returns-3
-    used-requires
+    (λ c κs. search needs)
     slice-aggregate-no-page-twice
-    no-page-twice-requires
+    (λ c κs. search needs)
     returns-4
-    none-above-requires
+    (λ c κs. search needs)
     returns-5
-    layers-sized-requires
+    (λ c κs. search needs)
     returns-6)

@@ -15,49 +15,51 @@ Inv-loop pages numbers i₀ i = (i ≤ length pages) × (allUnused (rowsOf numbe
 abbrev μ-loop : tie.MeasureT-loop
 μ-loop pages numbers i₀ i = length pages - i
 
--- src/trace.rt:47:5
 loop-holds : tie.Need-loop-holds Inv-loop μ-loop
 loop-holds c = (omega arith, refl)
 
--- src/trace.rt:48:12
-mul-if1 : tie.Need-mul-if1 Inv-loop μ-loop
-mul-if1 c = search needs
-
--- src/trace.rt:48:12
-shared-slice-read-if1 : tie.Need-shared-slice-read-if1 Inv-loop μ-loop
-shared-slice-read-if1 c = search needs
-
--- src/trace.rt:49:13
 returns : tie.Need-returns Inv-loop μ-loop
-returns c = unused-number (c .before .before .before .before .args .numbers .now) (c .before .before .before .before .args .pages .now) (c .before .before .before .loop .i) (c .before .before .before .before .pre) (c .before .before .before .loop .inv .1) (c .before .before .loop-test .taken) (c .if1 .taken)
+returns c =
+    let start = c .before .before .before .before in
+    let numbers = start .args .numbers .now in
+    let pages = start .args .pages .now in
+    let pre = start .pre in
+    let i = c .before .before .before .loop .i in
+    let inv = c .before .before .before .loop .inv in
+    let loop-test = c .before .before .loop-test in
+    unused-number numbers pages i pre (inv .1) (loop-test .taken) (c .if1 .taken)
 
--- src/trace.rt:51:12
-mul-if2 : tie.Need-mul-if2 Inv-loop μ-loop
-mul-if2 c = search needs
-
--- src/trace.rt:51:12
-shared-slice-read-if2 : tie.Need-shared-slice-read-if2 Inv-loop μ-loop
-shared-slice-read-if2 c = search needs
-
--- src/trace.rt:52:13
 returns-2 : tie.Need-returns-2 Inv-loop μ-loop
-returns-2 c = unused-page (c .before .before .before .before .before .before .args .numbers .now) (c .before .before .before .before .before .before .args .pages .now) (c .before .before .before .before .before .loop .i) (c .before .before .before .before .before .before .pre) (c .before .before .before .before .before .loop .inv .1) (c .before .before .before .before .loop-test .taken) (c .before .before .if1 .left) (c .if2 .taken)
+returns-2 c =
+    let start = c .before .before .before .before .before .before in
+    let numbers = start .args .numbers .now in
+    let pages = start .args .pages .now in
+    let pre = start .pre in
+    let i = c .before .before .before .before .before .loop .i in
+    let inv = c .before .before .before .before .before .loop .inv in
+    let loop-test = c .before .before .before .before .loop-test in
+    let if1 = c .before .before .if1 in
+    unused-page numbers pages i pre (inv .1) (loop-test .taken) (if1 .left) (c .if2 .taken)
 
--- src/trace.rt:54:9
-add-i : tie.Need-add-i Inv-loop μ-loop
-add-i c = search needs
-
--- src/trace.rt:47:5
-loop-less : tie.Need-loop-less Inv-loop μ-loop
-loop-less c = search needs
-
--- src/trace.rt:47:5
 loop-again : tie.Need-loop-again Inv-loop μ-loop
-loop-again c = (omega arith, unused-next (c .before .before .before .before .before .before .args .numbers .now) (c .before .before .before .before .before .before .args .pages .now) (c .before .before .before .before .before .loop .i) (c .before .before .before .before .before .before .pre) (c .before .before .before .before .before .loop .inv .1) (c .before .before .before .before .loop-test .taken) (c .before .before .if1 .left) (c .if2 .left))
+loop-again c =
+    let start = c .before .before .before .before .before .before in
+    let numbers = start .args .numbers .now in
+    let pages = start .args .pages .now in
+    let pre = start .pre in
+    let i = c .before .before .before .before .before .loop .i in
+    let inv = c .before .before .before .before .before .loop .inv in
+    let loop-test = c .before .before .before .before .loop-test in
+    let if1 = c .before .before .if1 in
+    (omega arith, unused-next numbers pages i pre (inv .1) (loop-test .taken) (if1 .left) (c .if2 .left))
 
--- src/trace.rt:42:1
 returns-3 : tie.Need-returns-3 Inv-loop μ-loop
-returns-3 c = unused-end (c .before .before .args .numbers .now) (c .before .before .args .pages .now) (c .before .loop .i) (c .before .before .pre) (c .before .loop .inv .1) (c .loop-test .left)
+returns-3 c =
+    let start = c .before .before in
+    let numbers = start .args .numbers .now in
+    let pages = start .args .pages .now in
+    let pre = start .pre in
+    unused-end numbers pages (c .before .loop .i) pre (c .before .loop .inv .1) (c .loop-test .left)
 
 pub all-unused-spec : {M : Type 1} → statement M
 all-unused-spec =
@@ -66,13 +68,13 @@ all-unused-spec =
     Inv-loop
     μ-loop
     loop-holds
-    mul-if1
-    shared-slice-read-if1
+    (λ c. search needs)
+    (λ c. search needs)
     returns
-    mul-if2
-    shared-slice-read-if2
+    (λ c. search needs)
+    (λ c. search needs)
     returns-2
-    add-i
-    loop-less
+    (λ c. search needs)
+    (λ c. search needs)
     loop-again
     returns-3)

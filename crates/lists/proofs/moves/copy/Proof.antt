@@ -8,13 +8,19 @@ use Rattle.lists.proofs.moves.copy.Tie as tie
 
 returns : tie.Need-returns
 returns c =
-    let s = c .before .before .before .before .before .before .before in
-    c .before .before .put .ensures ∙ pasted-whole (s .args .from .now) (s .args .to .now) (omega arith)
+    let start = c .before .before .before .before .before .before .before in
+    let from = start .args .from .now in
+    let to = start .args .to .now in
+    let put = c .before .before .put in
+    put .ensures ∙ pasted-whole from to (omega arith)
 
 returns-2 : tie.Need-returns-2
 returns-2 c =
-    let s = c .before .before .before .before .before .before .before in
-    c .before .before .put2 .ensures ∙ pasted-part (s .args .from .now) (s .args .to .now) (omega arith)
+    let start = c .before .before .before .before .before .before .before in
+    let from = start .args .from .now in
+    let to = start .args .to .now in
+    let put2 = c .before .before .put2 in
+    put2 .ensures ∙ pasted-part from to (omega arith)
 
 pub copy-spec : {M : Type 1} → statement M
 copy-spec =

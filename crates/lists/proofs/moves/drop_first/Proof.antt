@@ -8,13 +8,20 @@ use Rattle.lists.proofs.moves.drop_first.Tie as tie
 
 returns : tie.Need-returns
 returns c =
-    let s = c .before .before .before .before .before .before in
-    c .before .before .fill-zero .ensures ∙ dropped-all (s .args .n) (s .args .pages .now) (omega arith)
+    let start = c .before .before .before .before .before .before in
+    let n = start .args .n in
+    let pages = start .args .pages .now in
+    let fill-zero = c .before .before .fill-zero in
+    fill-zero .ensures ∙ dropped-all n pages (omega arith)
 
 returns-2 : tie.Need-returns-2
 returns-2 c =
-    let s = c .before .before .before .before .before .before .before .before .before .before in
-    dropped-made (s .args .n) _ (s .args .pages .now) (c .before .before .before .before .before .before .shift .last .0) _ (omega arith) (omega arith) (c .before .before .before .before .before .before .shift .ensures) (c .before .before .fill-zero2 .ensures)
+    let start = c .before .before .before .before .before .before .before .before .before .before in
+    let n = start .args .n in
+    let pages = start .args .pages .now in
+    let shift = c .before .before .before .before .before .before .shift in
+    let fill-zero2 = c .before .before .fill-zero2 in
+    dropped-made n _ pages (shift .last .0) _ (omega arith) (omega arith) (shift .ensures) (fill-zero2 .ensures)
 
 pub drop-first-spec : {M : Type 1} → statement M
 drop-first-spec =

@@ -19,11 +19,13 @@ loop-holds c = (omega arith, (omega arith, over-none _ _))
 
 loop-again : tie.Need-loop-again Inv-loop μ-loop
 loop-again c =
-    let s = c .before .before in
-    (omega arith, (simp length-set (omega arith), zero-turn (s .args .pages .now) _ _ (c .before .loop .inv .1 .1) (omega arith)))
+    let pages = c .before .before .args .pages .now in
+    (omega arith, (simp length-set (omega arith), zero-turn pages _ _ (c .before .loop .inv .1 .1) (omega arith)))
 
 returns : tie.Need-returns Inv-loop μ-loop
-returns c = zero-done (c .before .before .args .pages .now) _ _ (c .before .loop .inv .1 .1) (omega arith)
+returns c =
+    let pages = c .before .before .args .pages .now in
+    zero-done pages _ _ (c .before .loop .inv .1 .1) (omega arith)
 
 pub fill-zero-spec : {M : Type 1} → statement M
 fill-zero-spec =

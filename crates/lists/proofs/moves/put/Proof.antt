@@ -18,10 +18,14 @@ loop-holds : tie.Need-loop-holds Inv-loop μ-loop
 loop-holds c = (omega arith, (omega arith, over-none _ _))
 
 loop-again : tie.Need-loop-again Inv-loop μ-loop
-loop-again c = (omega arith, (simp length-set (omega arith), over-stored _ _ _ _ _ (c .before .before .loop .inv .1 .1) (omega arith) (omega arith) refl))
+loop-again c =
+    let inv = c .before .before .loop .inv in
+    (omega arith, (simp length-set (omega arith), over-stored _ _ _ _ _ (inv .1 .1) (omega arith) (omega arith) refl))
 
 returns : tie.Need-returns Inv-loop μ-loop
-returns c = put-done _ _ _ (c .before .before .args .n) (c .before .loop .i) (c .before .loop .inv .1 .1) (omega arith) (omega arith)
+returns c =
+    let n = c .before .before .args .n in
+    put-done _ _ _ n (c .before .loop .i) (c .before .loop .inv .1 .1) (omega arith) (omega arith)
 
 pub put-spec : {M : Type 1} → statement M
 put-spec =

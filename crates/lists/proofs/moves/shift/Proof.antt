@@ -18,12 +18,18 @@ loop-holds : tie.Need-loop-holds Inv-loop μ-loop
 loop-holds c = (omega arith, (omega arith, over-none _ _))
 
 loop-again : tie.Need-loop-again Inv-loop μ-loop
-loop-again c = (omega arith, (simp length-set (omega arith), shift-turn _ _ _ _ (c .before .before .loop .inv .1 .1) (omega arith)))
+loop-again c =
+    let inv = c .before .before .loop .inv in
+    (omega arith, (simp length-set (omega arith), shift-turn _ _ _ _ (inv .1 .1) (omega arith)))
 
 returns : tie.Need-returns Inv-loop μ-loop
 returns c =
-    let s = c .before .before in
-    shift-done (s .args .n) (s .args .left) (s .args .pages .now) _ (c .before .loop .i) (c .before .loop .inv .1 .1) (s .pre .1) (omega arith) (omega arith)
+    let start = c .before .before in
+    let left = start .args .left in
+    let n = start .args .n in
+    let pages = start .args .pages .now in
+    let pre = start .pre in
+    shift-done n left pages _ (c .before .loop .i) (c .before .loop .inv .1 .1) (pre .1) (omega arith) (omega arith)
 
 pub shift-spec : {M : Type 1} → statement M
 shift-spec =

@@ -21,7 +21,9 @@ loop-holds : tie.Need-loop-holds Inv-loop μ-loop
 loop-holds c = ((omega arith, omega arith), (omega arith, gap-start _ _ (omega arith)))
 
 loop-again : tie.Need-loop-again Inv-loop μ-loop
-loop-again c = ((omega arith, omega arith), (simp length-set (omega arith), gap-turn _ _ (omega arith) _ _ (c .before .before .loop .inv .1 .1) (omega arith) (omega arith)))
+loop-again c =
+    let inv = c .before .before .loop .inv in
+    ((omega arith, omega arith), (simp length-set (omega arith), gap-turn _ _ (omega arith) _ _ (inv .1 .1) (omega arith) (omega arith)))
 
 returns-2 : tie.Need-returns-2 Inv-loop μ-loop
 returns-2 c = gap-closed _ _ (omega arith) _ _ (c .before .loop .inv .1 .1) (omega arith) (omega arith)

@@ -6,18 +6,29 @@ use Rattle.lru.proofs.serving.decide.Tie as tie
 
 returns : tie.Need-returns
 returns c =
-    let s = c .before .before .before in
-    finds-held (s .args .k) (s .args .page) (s .args .held .now) _ (c .before .find .ensures) (c .if1 .taken)
+    let start = c .before .before .before in
+    let held = start .args .held .now in
+    let k = start .args .k in
+    let page = start .args .page in
+    finds-held k page held _ (c .before .find .ensures) (c .if1 .taken)
 
 returns-2 : tie.Need-returns-2
 returns-2 c =
-    let s = c .before .before .before .before in
-    finds-room (s .args .k) (s .args .page) (s .args .held .now) _ (c .before .before .find .ensures) (c .before .if1 .left) (c .if2 .taken)
+    let start = c .before .before .before .before in
+    let held = start .args .held .now in
+    let k = start .args .k in
+    let page = start .args .page in
+    let find = c .before .before .find in
+    finds-room k page held _ (find .ensures) (c .before .if1 .left) (c .if2 .taken)
 
 returns-3 : tie.Need-returns-3
 returns-3 c =
-    let s = c .before .before .before .before in
-    finds-full (s .args .k) (s .args .page) (s .args .held .now) _ (c .before .before .find .ensures) (c .before .if1 .left) (c .if2 .left)
+    let start = c .before .before .before .before in
+    let held = start .args .held .now in
+    let k = start .args .k in
+    let page = start .args .page in
+    let find = c .before .before .find in
+    finds-full k page held _ (find .ensures) (c .before .if1 .left) (c .if2 .left)
 
 pub decide-spec : {M : Type 1} → statement M
 decide-spec = tie.close (tie.spec (λ c κs. search needs) returns returns-2 returns-3)

@@ -11,8 +11,14 @@ slice-aggregate-to-end c = simp length-take (omega arith)
 
 returns : tie.Need-returns
 returns c =
-    let s = c .before .before .before .before .before .before .before .before .before in
-    hit-laid (s .args .n) (s .args .k) (s .args .at) (s .args .cache .now) _ _ (omega arith) (omega arith) (c .before .before .before .before .before .before .to-end .ensures) (c .before .before .fill-zero .ensures)
+    let start = c .before .before .before .before .before .before .before .before .before in
+    let offset = start .args .at in
+    let cache = start .args .cache .now in
+    let k = start .args .k in
+    let n = start .args .n in
+    let to-end = c .before .before .before .before .before .before .to-end in
+    let fill-zero = c .before .before .fill-zero in
+    hit-laid n k offset cache _ _ (omega arith) (omega arith) (to-end .ensures) (fill-zero .ensures)
 
 pub hit-spec : {M : Type 1} → statement M
 hit-spec =

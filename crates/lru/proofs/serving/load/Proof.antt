@@ -14,18 +14,42 @@ slice-aggregate-drop-first c = simp length-take (omega arith)
 
 part-fill-zero-end : tie.Need-part-fill-zero-end
 part-fill-zero-end c =
-    let s = c .before .before .before .before .before .before .before .before .before .before .before in
-    simp length-set (omega (arith, load-cache-length (s .args .n) (s .args .k) (s .args .out) (s .args .page) (s .args .cache .now) (omega arith) (omega arith) (omega arith) (omega arith) _ (c .before .before .drop-first .ensures)))
+    let start = c .before .before .before .before .before .before .before .before .before .before .before in
+    let cache = start .args .cache .now in
+    let k = start .args .k in
+    let n = start .args .n in
+    let out = start .args .out in
+    let page = start .args .page in
+    let drop-first = c .before .before .drop-first in
+    simp length-set (omega (arith, load-cache-length n k out page cache (omega arith) (omega arith) (omega arith) (omega arith) _ (drop-first .ensures)))
 
 same-length : tie.Need-same-length
 same-length c =
-    let s = c .before .before .before .before .before .before .before .before .before .before .before .before .before .before .before in
-    load-length-kept (s .args .n) (s .args .k) (s .args .out) (s .args .page) (s .args .cache .now) (omega arith) (omega arith) (omega arith) (omega arith) _ _ (c .before .before .before .before .before .before .drop-first .ensures) (c .before .before .fill-zero .ensures)
+    let start = c .before .before .before .before .before .before .before .before .before .before .before .before .before .before .before in
+    let cache = start .args .cache .now in
+    let k = start .args .k in
+    let n = start .args .n in
+    let out = start .args .out in
+    let page = start .args .page in
+    let drop-first = c .before .before .before .before .before .before .drop-first in
+    let fill-zero = c .before .before .fill-zero in
+    load-length-kept n k out page cache (omega arith) (omega arith) (omega arith) (omega arith) _ _ (drop-first .ensures) (fill-zero .ensures)
 
 returns : tie.Need-returns
 returns c =
-    let s = c .before .before .before .before .before .before .before .before .before .before .before .before .before .before .before in
-    (load-laid (s .args .n) (s .args .k) (s .args .out) (s .args .page) (s .args .cache .now) (omega arith) (omega arith) (omega arith) (omega arith) _ _ (c .before .before .before .before .before .before .drop-first .ensures) (c .before .before .fill-zero .ensures), load-bundle (s .args .n) (s .args .k) (s .args .out) (s .args .page) (s .args .cache .now) (omega arith) (omega arith) (omega arith) (omega arith) (s .args .evicted .now) _ (omega arith) (c .before .before .before .before .before .before .before .before .before .before .copy .ensures))
+    let start = c .before .before .before .before .before .before .before .before .before .before .before .before .before .before .before in
+    let cache = start .args .cache .now in
+    let evicted = start .args .evicted .now in
+    let k = start .args .k in
+    let n = start .args .n in
+    let out = start .args .out in
+    let page = start .args .page in
+    let copy = c .before .before .before .before .before .before .before .before .before .before .copy in
+    let drop-first = c .before .before .before .before .before .before .drop-first in
+    let fill-zero = c .before .before .fill-zero in (
+      load-laid n k out page cache (omega arith) (omega arith) (omega arith) (omega arith) _ _ (drop-first .ensures) (fill-zero .ensures),
+      load-bundle n k out page cache (omega arith) (omega arith) (omega arith) (omega arith) evicted _ (omega arith) (copy .ensures),
+    )
 
 pub load-spec : {M : Type 1} → statement M
 load-spec =

@@ -17,22 +17,44 @@ abbrev μ-loop : tie.MeasureT-loop
 μ-loop k a trace cache₀ evicted₀ run₀ count₀ i₀ cache evicted run count i = length trace - i
 
 loop-holds : tie.Need-loop-holds Inv-loop μ-loop
-loop-holds c = (omega arith, (refl, (refl, stands-first _ _ _ _ _ (c .before .before .pre) (c .empty .ensures))))
+loop-holds c =
+    let pre = c .before .before .pre in
+    (omega arith, (refl, (refl, stands-first _ _ _ _ _ pre (c .empty .ensures))))
 
 step-requires : tie.Need-step-requires Inv-loop μ-loop
 step-requires c κs =
-    let s = c .before .before .before .before .before .before .before in
-    stands-ready (c .before .before .before .before .loop .inv .1 .1 .1) (c .before .before .before .before .loop .evicted) (omega arith) (omega arith) (omega (arith, length-take-le (c .before .before .before .before .loop .i) (s .args .trace .now) (omega arith)))
+    let trace = c .before .before .before .before .before .before .before .args .trace .now in
+    let evicted = c .before .before .before .before .loop .evicted in
+    let i = c .before .before .before .before .loop .i in
+    let inv = c .before .before .before .before .loop .inv in
+    stands-ready (inv .1 .1 .1) evicted (omega arith) (omega arith) (omega (arith, length-take-le i trace (omega arith)))
 
 loop-again : tie.Need-loop-again Inv-loop μ-loop
 loop-again c =
-    let s = c .before .before .before .before .before .before .before .before .before .before .before in
-    (omega arith, (c .before .before .before .step .kept .1 .1 .0 ∙ c .before .before .before .before .before .before .before .before .loop .inv .1 .0, (c .before .before .before .step .kept .1 .1 .1 .0 ∙ c .before .before .before .before .before .before .before .before .loop .inv .1 .1 .0, stands-next (s .args .k) (s .args .a) (s .args .trace .now) (c .before .before .before .before .before .before .before .before .loop .i) _ _ _ _ _ (c .before .before .before .before .before .before .before .before .loop .inv .1 .1 .1) (omega arith) (omega arith) (c .before .before .before .step .ensures .0) (c .before .before .before .step .ensures .1 .0))))
+    let start = c .before .before .before .before .before .before .before .before .before .before .before in
+    let a = start .args .a in
+    let k = start .args .k in
+    let trace = start .args .trace .now in
+    let i = c .before .before .before .before .before .before .before .before .loop .i in
+    let inv = c .before .before .before .before .before .before .before .before .loop .inv in
+    let step = c .before .before .before .step in (
+      omega arith,
+      (
+        step .kept .1 .1 .0 ∙ inv .1 .0,
+        (
+          step .kept .1 .1 .1 .0 ∙ inv .1 .1 .0,
+          stands-next k a trace i _ _ _ _ _ (inv .1 .1 .1) (omega arith) (omega arith) (step .ensures .0) (step .ensures .1 .0),
+        ),
+      ),
+    )
 
 returns : tie.Need-returns Inv-loop μ-loop
 returns c =
-    let s = c .before .before .before .before in
-    stands-whole (s .args .k) (s .args .a) (s .args .trace .now) (c .before .loop .i) _ _ _ (c .before .loop .inv .1 .1 .1) (omega arith)
+    let start = c .before .before .before .before in
+    let a = start .args .a in
+    let k = start .args .k in
+    let trace = start .args .trace .now in
+    stands-whole k a trace (c .before .loop .i) _ _ _ (c .before .loop .inv .1 .1 .1) (omega arith)
 
 pub run-over-spec : {M : Type 1} → statement M
 run-over-spec =

@@ -12,33 +12,87 @@ slice-aggregate-decide c = simp length-take (omega arith)
 
 load-requires : tie.Need-load-requires
 load-requires c κs =
-    let s = c .before .before .before .before .before .before .before .before in
-    let t = room-told (s .args .run .k) (s .args .page) (take (s .args .count) (s .args .cache .now)) (sym (c .before .before .before .before .decide .ensures) ∙ c .before .before .enum-told .given .1) in omega (arith, length-held (s .args .run) (s .args .count) (s .args .cache .now) (s .args .evicted .now) (s .args .page) (s .pre))
+    let start = c .before .before .before .before .before .before .before .before in
+    let cache = start .args .cache .now in
+    let count = start .args .count in
+    let evicted = start .args .evicted .now in
+    let page = start .args .page in
+    let run = start .args .run in
+    let pre = start .pre in
+    let decide = c .before .before .before .before .decide in
+    let enum-told = c .before .before .enum-told in
+    let t = room-told (run .k) page (take count cache) (sym (decide .ensures) ∙ enum-told .given .1) in
+    omega (arith, length-held run count cache evicted page pre)
 
 load-requires-2 : tie.Need-load-requires-2
 load-requires-2 c κs =
-    let s = c .before .before .before .before .before .before .before .before in
-    let t = full-told (s .args .run .k) (s .args .page) (take (s .args .count) (s .args .cache .now)) (sym (c .before .before .before .before .decide .ensures) ∙ c .before .before .enum-told2 .given .1) in omega (arith, length-held (s .args .run) (s .args .count) (s .args .cache .now) (s .args .evicted .now) (s .args .page) (s .pre))
+    let start = c .before .before .before .before .before .before .before .before in
+    let cache = start .args .cache .now in
+    let count = start .args .count in
+    let evicted = start .args .evicted .now in
+    let page = start .args .page in
+    let run = start .args .run in
+    let pre = start .pre in
+    let decide = c .before .before .before .before .decide in
+    let enum-told2 = c .before .before .enum-told2 in
+    let t = full-told (run .k) page (take count cache) (sym (decide .ensures) ∙ enum-told2 .given .1) in
+    omega (arith, length-held run count cache evicted page pre)
 
 sub-t39 : tie.Need-sub-t39
 sub-t39 c =
-    let s = c .before .before .before .before .before .before .before .before .before .before .before .before .before .before in
-    let t = full-told (s .args .run .k) (s .args .page) (take (s .args .count) (s .args .cache .now)) (sym (c .before .before .before .before .before .before .before .before .before .before .decide .ensures) ∙ c .before .before .before .before .before .before .before .before .enum-told2 .given .1) in omega (arith, length-held (s .args .run) (s .args .count) (s .args .cache .now) (s .args .evicted .now) (s .args .page) (s .pre))
+    let start = c .before .before .before .before .before .before .before .before .before .before .before .before .before .before in
+    let cache = start .args .cache .now in
+    let count = start .args .count in
+    let evicted = start .args .evicted .now in
+    let page = start .args .page in
+    let run = start .args .run in
+    let pre = start .pre in
+    let decide = c .before .before .before .before .before .before .before .before .before .before .decide in
+    let enum-told2 = c .before .before .before .before .before .before .before .before .enum-told2 in
+    let t = full-told (run .k) page (take count cache) (sym (decide .ensures) ∙ enum-told2 .given .1) in
+    omega (arith, length-held run count cache evicted page pre)
 
 returns : tie.Need-returns
 returns c =
-    let s = c .before .before .before .before .before .before .before .before .before .before .before .before in
-    served-hit (s .args .run) (s .args .count) (s .args .cache .now) (s .args .evicted .now) (s .args .page) (s .pre) _ _ _ (sym (c .before .before .before .before .before .before .before .before .decide .ensures) ∙ c .before .before .before .before .before .before .found .given .1) (c .before .before .before .hit .ensures) (c .counted .ensures)
+    let start = c .before .before .before .before .before .before .before .before .before .before .before .before in
+    let cache = start .args .cache .now in
+    let count = start .args .count in
+    let evicted = start .args .evicted .now in
+    let page = start .args .page in
+    let run = start .args .run in
+    let pre = start .pre in
+    let decide = c .before .before .before .before .before .before .before .before .decide in
+    let found = c .before .before .before .before .before .before .found in
+    let hit = c .before .before .before .hit in
+    served-hit run count cache evicted page pre _ _ _ (sym (decide .ensures) ∙ found .given .1) (hit .ensures) (c .counted .ensures)
 
 returns-2 : tie.Need-returns-2
 returns-2 c =
-    let s = c .before .before .before .before .before .before .before .before .before .before .before .before .before .before in
-    served-load (s .args .run) (s .args .count) (s .args .cache .now) (s .args .evicted .now) (s .args .page) (s .pre) _ _ _ (sym (c .before .before .before .before .before .before .before .before .before .before .decide .ensures) ∙ c .before .before .before .before .before .before .before .before .enum-told .given .1) (c .before .before .before .before .before .load .ensures .0) (c .before .before .before .before .before .load .ensures .1) (c .counted2 .ensures)
+    let start = c .before .before .before .before .before .before .before .before .before .before .before .before .before .before in
+    let cache = start .args .cache .now in
+    let count = start .args .count in
+    let evicted = start .args .evicted .now in
+    let page = start .args .page in
+    let run = start .args .run in
+    let pre = start .pre in
+    let decide = c .before .before .before .before .before .before .before .before .before .before .decide in
+    let enum-told = c .before .before .before .before .before .before .before .before .enum-told in
+    let load = c .before .before .before .before .before .load in
+    served-load run count cache evicted page pre _ _ _ (sym (decide .ensures) ∙ enum-told .given .1) (load .ensures .0) (load .ensures .1) (c .counted2 .ensures)
 
 returns-3 : tie.Need-returns-3
 returns-3 c =
-    let s = c .before .before .before .before .before .before .before .before .before .before .before .before .before .before in
-    served-bundle (s .args .run) (s .args .count) (s .args .cache .now) (s .args .evicted .now) (s .args .page) (s .pre) _ _ _ (sym (c .before .before .before .before .before .before .before .before .before .before .decide .ensures) ∙ c .before .before .before .before .before .before .before .before .enum-told2 .given .1) (c .before .before .before .before .before .load2 .ensures .0) (c .before .before .before .before .before .load2 .ensures .1) (c .counted3 .ensures)
+    let start = c .before .before .before .before .before .before .before .before .before .before .before .before .before .before in
+    let cache = start .args .cache .now in
+    let count = start .args .count in
+    let evicted = start .args .evicted .now in
+    let page = start .args .page in
+    let run = start .args .run in
+    let pre = start .pre in
+    let decide = c .before .before .before .before .before .before .before .before .before .before .decide in
+    let enum-told2 = c .before .before .before .before .before .before .before .before .enum-told2 in
+    let load2 = c .before .before .before .before .before .load2 in
+    served-bundle run count cache evicted page pre _ _ _ (sym (decide .ensures) ∙ enum-told2 .given .1) (load2 .ensures .0) (load2 .ensures .1) (c .counted3 .ensures)
 
 pub step-spec : {M : Type 1} → statement M
 step-spec =

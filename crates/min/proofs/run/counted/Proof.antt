@@ -8,14 +8,27 @@ use Rattle.min.proofs.run.counted.Tie as tie
 
 pass-requires : tie.Need-pass-requires
 pass-requires c κs =
-    let p = c .before .before .before .before .before .before .before .pre in
-    record { small = p .small; some = p .some; fits = p .fits; short = p .short; filled = c .before .before .before .fill-lefts .ensures }
+    let pre = c .before .before .before .before .before .before .before .pre in
+    let fill-lefts = c .before .before .before .fill-lefts in
+    record { small = pre .small; some = pre .some; fits = pre .fits; short = pre .short; filled = fill-lefts .ensures }
 
 returns : tie.Need-returns
 returns c =
-    let p = c .before .before .before .before .before .before .before .before .pre in
-    let pages = at-below {n = 4294967296} (c .before .before .before .before .before .before .before .before .args .trace .now) (λ i h. omega (arith, c .before .before .before .before .before .before .before .shared-slice-known .given i)) in
-    record { ready = record { small = p .small; some = p .some; fits = p .fits; short = p .short; filled = c .before .before .before .before .fill-lefts .ensures }; best = c .pass .ensures .0 ∙ best-same (c .before .before .before .before .before .before .before .before .args .k) (c .before .before .before .before .before .before .before .before .args .a) pages; loaded = c .pass .ensures .1 ∙ loads-same (c .before .before .before .before .before .before .before .before .args .k) (c .before .before .before .before .before .before .before .before .args .a) pages }
+    let start = c .before .before .before .before .before .before .before .before in
+    let a = start .args .a in
+    let k = start .args .k in
+    let trace = start .args .trace .now in
+    let pre = start .pre in
+    let shared-slice-known = c .before .before .before .before .before .before .before .shared-slice-known in
+    let fill-lefts = c .before .before .before .before .fill-lefts in
+    let pages = at-below {n = 4294967296} trace (λ i h. omega (arith, shared-slice-known .given i)) in
+    record {
+      ready = record { small = pre .small; some = pre .some; fits = pre .fits; short = pre .short; filled = fill-lefts .ensures };
+      best = c .pass .ensures .0
+          ∙ best-same k a pages;
+      loaded = c .pass .ensures .1
+          ∙ loads-same k a pages;
+    }
 
 pub counted-spec : {M : Type 1} → statement M
 counted-spec = tie.close (tie.spec (λ c κs. search needs) pass-requires (λ c. search needs) returns)

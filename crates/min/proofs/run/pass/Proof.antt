@@ -18,49 +18,133 @@ abbrev μ-loop : tie.MeasureT-loop
 μ-loop k a trace lefts held₀ n₀ t₀ bundles₀ loads₀ held n t bundles loads = length trace - t
 
 loop-holds : tie.Need-loop-holds Inv-loop μ-loop
-loop-holds c = counting-starts (c .before .before .args .k) (c .before .before .args .a) (c .before .before .args .trace .now) _ refl
+loop-holds c =
+    let start = c .before .before in
+    let a = start .args .a in
+    let k = start .args .k in
+    let trace = start .args .trace .now in
+    counting-starts k a trace _ refl
 
 cast-key-of : tie.Need-cast-key-of Inv-loop μ-loop
-cast-key-of c = omega (arith, c .before .before .before .before .before .pre .short)
+cast-key-of c =
+    let pre = c .before .before .before .before .before .pre in
+    omega (arith, pre .short)
 
 mul-key-of : tie.Need-mul-key-of Inv-loop μ-loop
-mul-key-of c = omega (arith, lefts-long (c .before .before .before .before .before .before .args .k) (c .before .before .before .before .before .before .args .a) (c .before .before .before .before .before .before .args .trace .now) (c .before .before .before .before .before .before .args .lefts .now) (c .before .before .before .before .before .before .pre))
+mul-key-of c =
+    let start = c .before .before .before .before .before .before in
+    let a = start .args .a in
+    let k = start .args .k in
+    let lefts = start .args .lefts .now in
+    let trace = start .args .trace .now in
+    let pre = start .pre in
+    omega (arith, lefts-long k a trace lefts pre)
 
 shared-slice-read-key-of : tie.Need-shared-slice-read-key-of Inv-loop μ-loop
-shared-slice-read-key-of c = omega (arith, lefts-long (c .before .before .before .before .before .before .before .args .k) (c .before .before .before .before .before .before .before .args .a) (c .before .before .before .before .before .before .before .args .trace .now) (c .before .before .before .before .before .before .before .args .lefts .now) (c .before .before .before .before .before .before .before .pre))
+shared-slice-read-key-of c =
+    let start = c .before .before .before .before .before .before .before in
+    let a = start .args .a in
+    let k = start .args .k in
+    let lefts = start .args .lefts .now in
+    let trace = start .args .trace .now in
+    let pre = start .pre in
+    omega (arith, lefts-long k a trace lefts pre)
 
 slice-aggregate-kind-of : tie.Need-slice-aggregate-kind-of Inv-loop μ-loop
-slice-aggregate-kind-of c = sym (c .before .before .before .before .before .before .loop .inv .stands .places)
+slice-aggregate-kind-of c =
+    let inv = c .before .before .before .before .before .before .loop .inv in
+    sym (inv .stands .places)
 
 kind-of-requires : tie.Need-kind-of-requires Inv-loop μ-loop
-kind-of-requires c κs = (omega (arith, c .before .before .before .before .before .before .loop .inv .stands .held, c .before .before .before .before .before .before .loop .inv .stands .places, c .before .before .before .before .before .before .before .before .before .pre .small), omega (arith, c .before .before .before .key-of .ensures))
+kind-of-requires c κs =
+    let pre = c .before .before .before .before .before .before .before .before .before .pre in
+    let inv = c .before .before .before .before .before .before .loop .inv in
+    let key-of = c .before .before .before .key-of in
+    (omega (arith, inv .stands .held, inv .stands .places, pre .small), omega (arith, key-of .ensures))
 
 slice-aggregate-serve : tie.Need-slice-aggregate-serve Inv-loop μ-loop
-slice-aggregate-serve c = sym (c .before .before .before .before .before .before .before .before .loop .inv .stands .places)
+slice-aggregate-serve c =
+    let inv = c .before .before .before .before .before .before .before .before .loop .inv in
+    sym (inv .stands .places)
 
 serve-requires : tie.Need-serve-requires Inv-loop μ-loop
-serve-requires c κs = room (c .before .before .before .before .before .before .before .before .before .before .before .args .k) (c .before .before .before .before .before .before .before .before .before .before .before .args .a) (c .before .before .before .before .before .before .before .before .loop .t) (c .before .before .before .before .before .before .before .before .loop .n) (c .before .before .before .before .before .key-of .result) (c .before .kind-of .result) (c .before .before .before .before .before .before .before .before .before .before .before .args .trace .now) (c .before .before .before .before .before .before .before .before .before .before .before .args .lefts .now) (c .before .before .before .before .before .before .before .before .loop .held) (c .before .before .before .before .before .before .before .before .before .before .before .pre) (c .before .before .before .before .before .before .before .before .loop .inv .stands) (c .before .before .before .before .before .before .before .loop-test .taken) (c .before .before .before .before .before .key-of .ensures) (c .before .kind-of .ensures)
+serve-requires c κs =
+    let start = c .before .before .before .before .before .before .before .before .before .before .before in
+    let a = start .args .a in
+    let k = start .args .k in
+    let lefts = start .args .lefts .now in
+    let trace = start .args .trace .now in
+    let pre = start .pre in
+    let held = c .before .before .before .before .before .before .before .before .loop .held in
+    let inv = c .before .before .before .before .before .before .before .before .loop .inv in
+    let n = c .before .before .before .before .before .before .before .before .loop .n in
+    let t = c .before .before .before .before .before .before .before .before .loop .t in
+    let loop-test = c .before .before .before .before .before .before .before .loop-test in
+    let key-of = c .before .before .before .before .before .key-of in
+    let kind-of = c .before .kind-of in
+    room k a t n (key-of .result) (kind-of .result) trace lefts held pre (inv .stands) (loop-test .taken) (key-of .ensures) (kind-of .ensures)
 
 add-bundles : tie.Need-add-bundles Inv-loop μ-loop
-add-bundles c = omega (arith, c .before .before .before .before .before .before .before .before .before .before .before .loop .inv .bundled, count-kinds isBundled (c .before .before .before .before .before .before .before .before .before .before .before .before .before .before .args .k) (c .before .before .before .before .before .before .before .before .before .before .before .before .before .before .args .a) (c .before .before .before .before .before .before .before .before .before .before .before .before .before .before .args .trace .now), c .before .before .before .before .before .before .before .before .before .before .before .before .before .before .pre .short, c .bundle-bit .ensures, bit-le (isBundled (kindFrom (c .before .before .before .before .kind-of .result))))
+add-bundles c =
+    let start = c .before .before .before .before .before .before .before .before .before .before .before .before .before .before in
+    let a = start .args .a in
+    let k = start .args .k in
+    let trace = start .args .trace .now in
+    let pre = start .pre in
+    let inv = c .before .before .before .before .before .before .before .before .before .before .before .loop .inv in
+    let kind-of = c .before .before .before .before .kind-of in
+    omega (arith, inv .bundled, count-kinds isBundled k a trace, pre .short, c .bundle-bit .ensures, bit-le (isBundled (kindFrom (kind-of .result))))
 
 add-loads : tie.Need-add-loads Inv-loop μ-loop
-add-loads c = omega (arith, c .before .before .before .before .before .before .before .before .before .before .before .before .loop .inv .loaded, count-kinds isLoad (c .before .before .before .before .before .before .before .before .before .before .before .before .before .before .before .args .k) (c .before .before .before .before .before .before .before .before .before .before .before .before .before .before .before .args .a) (c .before .before .before .before .before .before .before .before .before .before .before .before .before .before .before .args .trace .now), c .before .before .before .before .before .before .before .before .before .before .before .before .before .before .before .pre .short, c .load-bit .ensures, bit-le (isLoad (kindFrom (c .before .before .before .before .before .kind-of .result))))
+add-loads c =
+    let start = c .before .before .before .before .before .before .before .before .before .before .before .before .before .before .before in
+    let a = start .args .a in
+    let k = start .args .k in
+    let trace = start .args .trace .now in
+    let pre = start .pre in
+    let inv = c .before .before .before .before .before .before .before .before .before .before .before .before .loop .inv in
+    let kind-of = c .before .before .before .before .before .kind-of in
+    omega (arith, inv .loaded, count-kinds isLoad k a trace, pre .short, c .load-bit .ensures, bit-le (isLoad (kindFrom (kind-of .result))))
 
 add-t : tie.Need-add-t Inv-loop μ-loop
-add-t c = omega (arith, c .before .before .before .before .before .before .before .before .before .before .before .before .before .before .before .pre .short)
+add-t c =
+    let pre = c .before .before .before .before .before .before .before .before .before .before .before .before .before .before .before .pre in
+    omega (arith, pre .short)
 
 loop-less : tie.Need-loop-less Inv-loop μ-loop
 loop-less c = omega arith
 
 loop-again : tie.Need-loop-again Inv-loop μ-loop
 loop-again c =
+    let start = c .before .before .before .before .before .before .before .before .before .before .before .before .before .before .before in
+    let a = start .args .a in
+    let k = start .args .k in
+    let lefts = start .args .lefts .now in
+    let trace = start .args .trace .now in
+    let pre = start .pre in
+    let bundles = c .before .before .before .before .before .before .before .before .before .before .before .before .loop .bundles in
+    let held = c .before .before .before .before .before .before .before .before .before .before .before .before .loop .held in
+    let inv = c .before .before .before .before .before .before .before .before .before .before .before .before .loop .inv in
+    let loads = c .before .before .before .before .before .before .before .before .before .before .before .before .loop .loads in
+    let n = c .before .before .before .before .before .before .before .before .before .before .before .before .loop .n in
+    let t = c .before .before .before .before .before .before .before .before .before .before .before .before .loop .t in
+    let loop-test = c .before .before .before .before .before .before .before .before .before .before .before .loop-test in
+    let key-of = c .before .before .before .before .before .before .before .before .before .key-of in
+    let key-of2 = c .before .before .before .before .before .before .before .key-of2 in
+    let kind-of = c .before .before .before .before .before .kind-of in
+    let serve = c .before .before .before .serve in
     rw (c .before .bundle-bit .ensures, c .load-bit .ensures)
-    (counting-turn (c .before .before .before .before .before .before .before .before .before .before .before .before .before .before .before .args .k) (c .before .before .before .before .before .before .before .before .before .before .before .before .before .before .before .args .a) (c .before .before .before .before .before .before .before .before .before .before .before .before .loop .t) (c .before .before .before .before .before .before .before .before .before .before .before .before .loop .n) (c .before .before .before .before .before .before .before .before .before .key-of .result) (c .before .before .before .before .before .kind-of .result) (c .before .before .before .before .before .before .before .before .before .before .before .before .before .before .before .args .trace .now) (c .before .before .before .before .before .before .before .before .before .before .before .before .before .before .before .args .lefts .now) (c .before .before .before .before .before .before .before .before .before .before .before .before .loop .held) (c .before .before .before .before .before .before .before .before .before .before .before .before .before .before .before .pre) (c .before .before .before .before .before .before .before .before .before .before .before .before .loop .inv .stands) (c .before .before .before .before .before .before .before .before .before .before .before .loop-test .taken) (c .before .before .before .before .before .before .before .before .before .key-of .ensures) (c .before .before .before .before .before .kind-of .ensures)
-    (c .before .before .before .before .before .before .before .key-of2 .result) (c .before .before .before .serve .result) (c .before .before .before .serve .last .0) (c .before .before .before .before .before .before .before .key-of2 .ensures) (c .before .before .before .serve .kept .0) (c .before .before .before .serve .ensures .0) (c .before .before .before .serve .ensures .1) (c .before .before .before .before .before .before .before .before .before .before .before .before .loop .bundles) (c .before .before .before .before .before .before .before .before .before .before .before .before .loop .loads) (c .before .before .before .before .before .before .before .before .before .before .before .before .loop .inv))
+    (counting-turn k a t n (key-of .result) (kind-of .result) trace lefts held pre (inv .stands) (loop-test .taken) (key-of .ensures) (kind-of .ensures)
+    (key-of2 .result) (serve .result) (serve .last .0) (key-of2 .ensures) (serve .kept .0) (serve .ensures .0) (serve .ensures .1) bundles loads inv)
 
 returns : tie.Need-returns Inv-loop μ-loop
-returns c = counting-ends (c .before .before .before .before .args .k) (c .before .before .before .before .args .a) (c .before .loop .t) (c .before .loop .n) (c .before .loop .bundles) (c .before .loop .loads) (c .before .before .before .before .args .trace .now) (c .before .loop .held) (c .before .loop .inv) (c .loop-test .left)
+returns c =
+    let start = c .before .before .before .before in
+    let a = start .args .a in
+    let k = start .args .k in
+    let trace = start .args .trace .now in
+    counting-ends k a (c .before .loop .t) (c .before .loop .n) (c .before .loop .bundles) (c .before .loop .loads) trace (c .before .loop .held) (c .before .loop .inv)
+    (c .loop-test .left)
 
 pub pass-spec : {M : Type 1} → statement M
 pass-spec =

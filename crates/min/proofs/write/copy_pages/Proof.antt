@@ -20,10 +20,22 @@ loop-holds : tie.Need-loop-holds Inv-loop μ-loop
 loop-holds c = (omega arith, (refl, over-none _ _))
 
 loop-again : tie.Need-loop-again Inv-loop μ-loop
-loop-again c = (omega arith, (simp length-set (omega arith), pages-turn (c .before .before .before .loop .i) (c .before .before .before .before .before .before .args .held .now) (c .before .before .before .before .before .before .args .pages .now) (c .before .before .before .loop .pages) (c .page-of .result) (omega arith) (omega arith) (c .before .before .before .loop .inv .1 .1) (c .page-of .ensures)))
+loop-again c =
+    let start = c .before .before .before .before .before .before in
+    let held = start .args .held .now in
+    let pages₀ = start .args .pages .now in
+    let i = c .before .before .before .loop .i in
+    let inv = c .before .before .before .loop .inv in
+    let pages = c .before .before .before .loop .pages in
+    (omega arith, (simp length-set (omega arith), pages-turn i held pages₀ pages (c .page-of .result) (omega arith) (omega arith) (inv .1 .1) (c .page-of .ensures)))
 
 returns : tie.Need-returns Inv-loop μ-loop
-returns c = pages-done (c .before .loop .i) (c .before .before .before .before .args .a) (c .before .before .before .before .args .held .now) (c .before .before .before .before .args .pages .now) (c .before .loop .pages) (omega arith) (omega arith) (c .before .loop .inv .1 .1)
+returns c =
+    let start = c .before .before .before .before in
+    let a = start .args .a in
+    let held = start .args .held .now in
+    let pages = start .args .pages .now in
+    pages-done (c .before .loop .i) a held pages (c .before .loop .pages) (omega arith) (omega arith) (c .before .loop .inv .1 .1)
 
 pub copy-pages-spec : {M : Type 1} → statement M
 copy-pages-spec =

@@ -8,13 +8,29 @@ use Rattle.min.proofs.write.put_bundle.Statement.{statement}
 use Rattle.min.proofs.write.put_bundle.Tie as tie
 
 copy-pages-requires : tie.Need-copy-pages-requires
-copy-pages-requires c κs = (c .before .before .before .pre .held, c .before .before .before .pre .small)
+copy-pages-requires c κs =
+    let pre = c .before .before .before .pre in
+    (pre .held, pre .small)
 
 slice-aggregate-ev : tie.Need-slice-aggregate-ev
-slice-aggregate-ev c = sym (length-take-le (c .before .before .before .before .before .before .before .args .a) (c .before .before .before .copy-pages .last .1 .1 .0) (omega (arith, c .before .before .before .copy-pages .kept .1 .1 .0, c .before .before .before .before .before .before .before .pre .small)))
+slice-aggregate-ev c =
+    let start = c .before .before .before .before .before .before .before in
+    let a = start .args .a in
+    let pre = start .pre in
+    let copy-pages = c .before .before .before .copy-pages in
+    sym (length-take-le a (copy-pages .last .1 .1 .0) (omega (arith, copy-pages .kept .1 .1 .0, pre .small)))
 
 returns : tie.Need-returns
-returns c = put-bundle-is (c .before .before .before .before .before .before .before .before .before .before .args .t) (c .before .before .before .before .before .before .before .before .before .before .args .a) (c .before .before .ev .result) (take (c .before .before .before .before .before .before .before .before .before .before .args .a) (c .before .before .before .before .before .before .copy-pages .last .1 .1 .0)) (c .before .before .before .before .before .before .before .before .before .before .args .held .now) (c .before .before .before .before .before .before .before .before .before .before .args .rest .now) (c .before .before .ev .last .0) (c .before .before .before .before .before .before .before .before .before .before .pre) (c .before .before .before .before .before .before .copy-pages .ensures) (c .before .before .ev .ensures .0) (c .before .before .ev .ensures .1)
+returns c =
+    let start = c .before .before .before .before .before .before .before .before .before .before in
+    let a = start .args .a in
+    let held = start .args .held .now in
+    let rest = start .args .rest .now in
+    let t = start .args .t in
+    let pre = start .pre in
+    let copy-pages = c .before .before .before .before .before .before .copy-pages in
+    let ev = c .before .before .ev in
+    put-bundle-is t a (ev .result) (take a (copy-pages .last .1 .1 .0)) held rest (ev .last .0) pre (copy-pages .ensures) (ev .ensures .0) (ev .ensures .1)
 
 pub put-bundle-spec : {M : Type 1} → statement M
 put-bundle-spec =

@@ -16,7 +16,15 @@ abbrev μ-loop : tie.MeasureT-loop
 μ-loop k a trace lefts out₀ from held₀ n₀ t₀ at₀ out held n t at = length trace - t
 
 loop-holds : tie.Need-loop-holds Inv-loop μ-loop
-loop-holds c = writing-starts (c .before .before .before .args .k) (c .before .before .before .args .a) (c .before .before .before .args .from) (c .before .before .before .args .trace .now) _ (c .before .before .before .args .out .now) refl (c .before .before .before .pre .1)
+loop-holds c =
+    let start = c .before .before .before in
+    let a = start .args .a in
+    let from = start .args .from in
+    let k = start .args .k in
+    let out = start .args .out .now in
+    let trace = start .args .trace .now in
+    let pre = start .pre in
+    writing-starts k a from trace _ out refl (pre .1)
 
 mul-page : tie.Need-mul-page Inv-loop μ-loop
 mul-page c = omega arith
@@ -28,48 +36,139 @@ sub-key-of : tie.Need-sub-key-of Inv-loop μ-loop
 sub-key-of c = omega arith
 
 cast-key-of : tie.Need-cast-key-of Inv-loop μ-loop
-cast-key-of c = omega (arith, c .before .before .before .before .before .before .pre .0 .short)
+cast-key-of c =
+    let pre = c .before .before .before .before .before .before .pre in
+    omega (arith, pre .0 .short)
 
 mul-key-of : tie.Need-mul-key-of Inv-loop μ-loop
-mul-key-of c = omega (arith, lefts-long (c .before .before .before .before .before .before .before .args .k) (c .before .before .before .before .before .before .before .args .a) (c .before .before .before .before .before .before .before .args .trace .now) (c .before .before .before .before .before .before .before .args .lefts .now) (c .before .before .before .before .before .before .before .pre .0))
+mul-key-of c =
+    let start = c .before .before .before .before .before .before .before in
+    let a = start .args .a in
+    let k = start .args .k in
+    let lefts = start .args .lefts .now in
+    let trace = start .args .trace .now in
+    let pre = start .pre in
+    omega (arith, lefts-long k a trace lefts (pre .0))
 
 shared-slice-read-key-of : tie.Need-shared-slice-read-key-of Inv-loop μ-loop
-shared-slice-read-key-of c = omega (arith, lefts-long (c .before .before .before .before .before .before .before .before .args .k) (c .before .before .before .before .before .before .before .before .args .a) (c .before .before .before .before .before .before .before .before .args .trace .now) (c .before .before .before .before .before .before .before .before .args .lefts .now) (c .before .before .before .before .before .before .before .before .pre .0))
+shared-slice-read-key-of c =
+    let start = c .before .before .before .before .before .before .before .before in
+    let a = start .args .a in
+    let k = start .args .k in
+    let lefts = start .args .lefts .now in
+    let trace = start .args .trace .now in
+    let pre = start .pre in
+    omega (arith, lefts-long k a trace lefts (pre .0))
 
 slice-aggregate-kind-of : tie.Need-slice-aggregate-kind-of Inv-loop μ-loop
-slice-aggregate-kind-of c = sym (c .before .before .before .before .before .before .loop .inv .stands .places)
+slice-aggregate-kind-of c =
+    let inv = c .before .before .before .before .before .before .loop .inv in
+    sym (inv .stands .places)
 
 kind-of-requires : tie.Need-kind-of-requires Inv-loop μ-loop
-kind-of-requires c κs = (omega (arith, c .before .before .before .before .before .before .loop .inv .stands .held, c .before .before .before .before .before .before .loop .inv .stands .places, c .before .before .before .before .before .before .before .before .before .before .pre .0 .small), omega (arith, c .before .before .before .key-of .ensures))
+kind-of-requires c κs =
+    let pre = c .before .before .before .before .before .before .before .before .before .before .pre in
+    let inv = c .before .before .before .before .before .before .loop .inv in
+    let key-of = c .before .before .before .key-of in
+    (omega (arith, inv .stands .held, inv .stands .places, pre .0 .small), omega (arith, key-of .ensures))
 
 slice-aggregate-put-if-bundled : tie.Need-slice-aggregate-put-if-bundled Inv-loop μ-loop
-slice-aggregate-put-if-bundled c = sym (c .before .before .before .before .before .before .before .before .loop .inv .stands .places)
+slice-aggregate-put-if-bundled c =
+    let inv = c .before .before .before .before .before .before .before .before .loop .inv in
+    sym (inv .stands .places)
 
 put-if-bundled-requires : tie.Need-put-if-bundled-requires Inv-loop μ-loop
-put-if-bundled-requires c κs = bundle-room (c .before .before .before .before .before .before .before .before .before .before .before .before .before .args .k) (c .before .before .before .before .before .before .before .before .before .before .before .before .before .args .a) (c .before .before .before .before .before .before .before .before .before .loop .t) (c .before .before .before .before .before .before .before .before .before .loop .n) (c .before .before .before .before .before .before .before .before .before .loop .at) (c .before .before .before .before .before .before .before .before .before .before .before .before .before .args .from) (c .before .before .before .before .before .before .key-of .result) (c .before .before .kind-of .result) (c .before .before .before .before .before .before .before .before .before .before .before .before .before .args .trace .now) (c .before .before .before .before .before .before .before .before .before .before .before .before .before .args .lefts .now) (c .before .before .before .before .before .before .before .before .before .loop .held) (c .before .before .before .before .before .before .before .before .before .before .before .before .before .args .out .now) (c .before .before .before .before .before .before .before .before .before .loop .out) (c .before .before .before .before .before .before .before .before .before .before .before .before .before .pre .0) (c .before .before .before .before .before .before .before .before .before .loop .inv) (c .before .before .before .before .before .before .before .before .loop-test .taken) (c .before .before .before .before .before .before .key-of .ensures) (c .before .before .kind-of .ensures)
+put-if-bundled-requires c κs =
+    let start = c .before .before .before .before .before .before .before .before .before .before .before .before .before in
+    let a = start .args .a in
+    let from = start .args .from in
+    let k = start .args .k in
+    let lefts = start .args .lefts .now in
+    let out₀ = start .args .out .now in
+    let trace = start .args .trace .now in
+    let pre = start .pre in
+    let offset = c .before .before .before .before .before .before .before .before .before .loop .at in
+    let held = c .before .before .before .before .before .before .before .before .before .loop .held in
+    let inv = c .before .before .before .before .before .before .before .before .before .loop .inv in
+    let n = c .before .before .before .before .before .before .before .before .before .loop .n in
+    let out = c .before .before .before .before .before .before .before .before .before .loop .out in
+    let t = c .before .before .before .before .before .before .before .before .before .loop .t in
+    let loop-test = c .before .before .before .before .before .before .before .before .loop-test in
+    let key-of = c .before .before .before .before .before .before .key-of in
+    let kind-of = c .before .before .kind-of in
+    bundle-room k a t n offset from (key-of .result) (kind-of .result) trace lefts held out₀ out (pre .0) inv (loop-test .taken) (key-of .ensures) (kind-of .ensures)
 
 slice-aggregate-serve : tie.Need-slice-aggregate-serve Inv-loop μ-loop
-slice-aggregate-serve c = sym (c .before .before .before .before .before .before .before .before .before .before .before .before .before .loop .inv .stands .places)
+slice-aggregate-serve c =
+    let inv = c .before .before .before .before .before .before .before .before .before .before .before .before .before .loop .inv in
+    sym (inv .stands .places)
 
 serve-requires : tie.Need-serve-requires Inv-loop μ-loop
-serve-requires c κs = room (c .before .before .before .before .before .before .before .before .before .before .before .before .before .before .before .before .before .args .k) (c .before .before .before .before .before .before .before .before .before .before .before .before .before .before .before .before .before .args .a) (c .before .before .before .before .before .before .before .before .before .before .before .before .before .loop .t) (c .before .before .before .before .before .before .before .before .before .before .before .before .before .loop .n) (c .before .before .before .before .before .before .before .before .before .before .key-of .result) (c .before .before .before .before .before .before .kind-of .result) (c .before .before .before .before .before .before .before .before .before .before .before .before .before .before .before .before .before .args .trace .now) (c .before .before .before .before .before .before .before .before .before .before .before .before .before .before .before .before .before .args .lefts .now) (c .before .before .before .before .before .before .before .before .before .before .before .before .before .loop .held) (c .before .before .before .before .before .before .before .before .before .before .before .before .before .before .before .before .before .pre .0) (c .before .before .before .before .before .before .before .before .before .before .before .before .before .loop .inv .stands) (c .before .before .before .before .before .before .before .before .before .before .before .before .loop-test .taken) (c .before .before .before .before .before .before .before .before .before .before .key-of .ensures) (c .before .before .before .before .before .before .kind-of .ensures)
+serve-requires c κs =
+    let start = c .before .before .before .before .before .before .before .before .before .before .before .before .before .before .before .before .before in
+    let a = start .args .a in
+    let k = start .args .k in
+    let lefts = start .args .lefts .now in
+    let trace = start .args .trace .now in
+    let pre = start .pre in
+    let held = c .before .before .before .before .before .before .before .before .before .before .before .before .before .loop .held in
+    let inv = c .before .before .before .before .before .before .before .before .before .before .before .before .before .loop .inv in
+    let n = c .before .before .before .before .before .before .before .before .before .before .before .before .before .loop .n in
+    let t = c .before .before .before .before .before .before .before .before .before .before .before .before .before .loop .t in
+    let loop-test = c .before .before .before .before .before .before .before .before .before .before .before .before .loop-test in
+    let key-of = c .before .before .before .before .before .before .before .before .before .before .key-of in
+    let kind-of = c .before .before .before .before .before .before .kind-of in
+    room k a t n (key-of .result) (kind-of .result) trace lefts held (pre .0) (inv .stands) (loop-test .taken) (key-of .ensures) (kind-of .ensures)
 
 add-t : tie.Need-add-t Inv-loop μ-loop
-add-t c = omega (arith, c .before .before .before .before .before .before .before .before .before .before .before .before .before .before .before .before .before .before .before .pre .0 .short)
+add-t c =
+    let pre = c .before .before .before .before .before .before .before .before .before .before .before .before .before .before .before .before .before .before .before
+    .pre in
+    omega (arith, pre .0 .short)
 
 loop-less : tie.Need-loop-less Inv-loop μ-loop
 loop-less c = omega arith
 
 loop-again : tie.Need-loop-again Inv-loop μ-loop
 loop-again c =
-    writing-turn (c .before .before .before .before .before .before .before .before .before .before .before .before .before .before .before .before .before .before .before .args .k) (c .before .before .before .before .before .before .before .before .before .before .before .before .before .before .before .before .before .before .before .args .a) (c .before .before .before .before .before .before .before .before .before .before .before .before .before .before .before .loop .t) (c .before .before .before .before .before .before .before .before .before .before .before .before .before .before .before .loop .n) (c .before .before .before .before .before .before .before .before .before .before .before .before .before .before .before .loop .at) (c .before .before .before .before .before .before .before .before .before .before .before .before .before .before .before .before .before .before .before .args .from) (c .before .before .before .before .before .before .before .before .before .before .before .before .key-of .result) (c .before .before .before .before .before .before .before .before .kind-of .result) (c .before .before .before .before .before .before .before .before .before .before .before .before .before .before .before .before .before .before .before .args .trace .now) (c .before .before .before .before .before .before .before .before .before .before .before .before .before .before .before .before .before .before .before .args .lefts .now) (c .before .before .before .before .before .before .before .before .before .before .before .before .before .before .before .loop .held) (c .before .before .before .before .before .before .before .before .before .before .before .before .before .before .before .before .before .before .before .args .out .now) (c .before .before .before .before .before .before .before .before .before .before .before .before .before .before .before .loop .out) (c .before .before .before .before .before .before .before .before .before .before .before .before .before .before .before .before .before .before .before .pre .0) (c .before .before .before .before .before .before .before .before .before .before .before .before .before .before .before .loop .inv) (c .before .before .before .before .before .before .before .before .before .before .before .before .before .before .loop-test .taken) (c .before .before .before .before .before .before .before .before .before .before .before .before .key-of .ensures) (c .before .before .before .before .before .before .before .before .kind-of .ensures)
-    (c .before .before .before .before .before .before .before .before .before .before .key-of2 .result) (c .before .serve .result) (c .before .before .before .before .before .put-if-bundled .result) (c .before .serve .last .0) (c .before .before .before .before .before .put-if-bundled .last .1 .1 .1 .1 .1 .0) (c .before .before .before .before .before .before .before .before .before .before .key-of2 .ensures) (c .before .serve .kept .0) (c .before .serve .ensures .0) (c .before .serve .ensures .1) (c .before .before .before .before .before .put-if-bundled .ensures .0) (c .before .before .before .before .before .put-if-bundled .ensures .1)
+    let start = c .before .before .before .before .before .before .before .before .before .before .before .before .before .before .before .before .before .before .before
+    in
+    let a = start .args .a in
+    let from = start .args .from in
+    let k = start .args .k in
+    let lefts = start .args .lefts .now in
+    let out₀ = start .args .out .now in
+    let trace = start .args .trace .now in
+    let pre = start .pre in
+    let offset = c .before .before .before .before .before .before .before .before .before .before .before .before .before .before .before .loop .at in
+    let held = c .before .before .before .before .before .before .before .before .before .before .before .before .before .before .before .loop .held in
+    let inv = c .before .before .before .before .before .before .before .before .before .before .before .before .before .before .before .loop .inv in
+    let n = c .before .before .before .before .before .before .before .before .before .before .before .before .before .before .before .loop .n in
+    let out = c .before .before .before .before .before .before .before .before .before .before .before .before .before .before .before .loop .out in
+    let t = c .before .before .before .before .before .before .before .before .before .before .before .before .before .before .before .loop .t in
+    let loop-test = c .before .before .before .before .before .before .before .before .before .before .before .before .before .before .loop-test in
+    let key-of = c .before .before .before .before .before .before .before .before .before .before .before .before .key-of in
+    let key-of2 = c .before .before .before .before .before .before .before .before .before .before .key-of2 in
+    let kind-of = c .before .before .before .before .before .before .before .before .kind-of in
+    let put-if-bundled = c .before .before .before .before .before .put-if-bundled in
+    let serve = c .before .serve in
+    writing-turn k a t n offset from (key-of .result) (kind-of .result) trace lefts held out₀ out (pre .0) inv (loop-test .taken) (key-of .ensures) (kind-of .ensures)
+    (key-of2 .result) (serve .result) (put-if-bundled .result) (serve .last .0) (put-if-bundled .last .1 .1 .1 .1 .1 .0) (key-of2 .ensures) (serve .kept .0)
+    (serve .ensures .0) (serve .ensures .1) (put-if-bundled .ensures .0) (put-if-bundled .ensures .1)
 
 same-length : tie.Need-same-length Inv-loop μ-loop
 same-length c = c .before .loop .inv .same
 
 returns : tie.Need-returns Inv-loop μ-loop
-returns c = writing-ends (c .before .before .before .before .before .args .k) (c .before .before .before .before .before .args .a) (c .before .loop .t) (c .before .loop .n) (c .before .loop .at) (c .before .before .before .before .before .args .from) (c .before .before .before .before .before .args .trace .now) (c .before .loop .held) (c .before .before .before .before .before .args .out .now) (c .before .loop .out) (c .before .loop .inv) (c .loop-test .left)
+returns c =
+    let start = c .before .before .before .before .before in
+    let a = start .args .a in
+    let from = start .args .from in
+    let k = start .args .k in
+    let out = start .args .out .now in
+    let trace = start .args .trace .now in
+    writing-ends k a (c .before .loop .t) (c .before .loop .n) (c .before .loop .at) from trace (c .before .loop .held) out (c .before .loop .out) (c .before .loop .inv)
+    (c .loop-test .left)
 
 pub put-bundles-spec : {M : Type 1} → statement M
 put-bundles-spec =

@@ -12,19 +12,29 @@ use Rattle.records.proofs.put.ka.Tie as tie
 
 returns : tie.Need-returns
 returns c =
-    let a = c .before .before .args in
-    put-short (kaBytes (a .k) (a .a)) (a .rest .now) false refl (c .if1 .taken)
+    let start = c .before .before in
+    let a = start .args .a in
+    let k = start .args .k in
+    let rest = start .args .rest .now in
+    put-short (kaBytes k a) rest false refl (c .if1 .taken)
 
 returns-2 : tie.Need-returns-2
 returns-2 c =
-    let a = c .before .before .before .before .before .before .before .before .before .before .before .before .before .before .args in
-    put-whole (kaBytes (a .k) (a .a)) (a .rest .now) _ _ false refl refl
-    (c .before .before .before .before .before .before .before .before .before .before .before .before .if1 .left)
-    (stored3 (a .rest .now) (bytes16 markKA) (bytes16 (a .k)) (bytes16 (a .a))
-    (c .before .before .before .before .before .before .before .before .before .before .write16 .last .0)
-    (c .before .before .before .before .before .before .write162 .last .0) (c .before .before .write163 .last .0) (omega arith)
-    (c .before .before .before .before .before .before .before .before .before .before .write16 .ensures)
-    (c .before .before .before .before .before .before .write162 .ensures) (c .before .before .write163 .ensures))
+    let start = c .before .before .before .before .before .before .before .before .before .before .before .before .before .before in
+    let a = start .args .a in
+    let k = start .args .k in
+    let rest = start .args .rest .now in
+    let if1 = c .before .before .before .before .before .before .before .before .before .before .before .before .if1 in
+    let write16 = c .before .before .before .before .before .before .before .before .before .before .write16 in
+    let write162 = c .before .before .before .before .before .before .write162 in
+    let write163 = c .before .before .write163 in
+    put-whole (kaBytes k a) rest _ _ false refl refl
+    (if1 .left)
+    (stored3 rest (bytes16 markKA) (bytes16 k) (bytes16 a)
+    (write16 .last .0)
+    (write162 .last .0) (write163 .last .0) (omega arith)
+    (write16 .ensures)
+    (write162 .ensures) (write163 .ensures))
 
 pub ka-spec : {M : Type 1} → statement M
 ka-spec =

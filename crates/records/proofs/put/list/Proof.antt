@@ -20,18 +20,29 @@ loop-holds c = (omega arith, (refl, none-placed _))
 
 loop-again : tie.Need-loop-again Inv-loop μ-loop
 loop-again c =
-    let a = c .before .before .before .before .before .before .before .before .before .args in
-    let q = page-placed (a .rest .now) (a .pages .now) (c .before .before .before .before .before .before .loop .rest)
-    (c .before .before .write32 .last .0) (c .before .before .before .before .before .before .loop .i)
-    (c .before .before .before .before .before .loop-test .taken) (c .before .before .before .before .before .before .before .before .before .pre)
-    (c .before .before .before .before .before .before .loop .inv .1 .1) (c .before .before .write32 .ensures) in
+    let start = c .before .before .before .before .before .before .before .before .before in
+    let pages = start .args .pages .now in
+    let rest₀ = start .args .rest .now in
+    let pre = start .pre in
+    let i = c .before .before .before .before .before .before .loop .i in
+    let inv = c .before .before .before .before .before .before .loop .inv in
+    let rest = c .before .before .before .before .before .before .loop .rest in
+    let loop-test = c .before .before .before .before .before .loop-test in
+    let write32 = c .before .before .write32 in
+    let q = page-placed rest₀ pages rest
+    (write32 .last .0) i
+    (loop-test .taken) pre
+    (inv .1 .1) (write32 .ensures) in
     (omega arith, q)
 
 returns : tie.Need-returns Inv-loop μ-loop
 returns c =
-    let a = c .before .before .before .before .args in
-    all-placed (a .rest .now) (a .pages .now) (c .before .loop .rest) (c .before .loop .i) (c .before .loop .inv .0) (c .loop-test .left)
-    (c .before .loop .inv .1 .1)
+    let start = c .before .before .before .before in
+    let pages = start .args .pages .now in
+    let rest = start .args .rest .now in
+    let inv = c .before .loop .inv in
+    all-placed rest pages (c .before .loop .rest) (c .before .loop .i) (inv .0) (c .loop-test .left)
+    (inv .1 .1)
 
 pub list-spec : {M : Type 1} → statement M
 list-spec =

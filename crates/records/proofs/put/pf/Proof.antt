@@ -12,19 +12,29 @@ use Rattle.records.proofs.put.pf.Tie as tie
 
 returns : tie.Need-returns
 returns c =
-    let a = c .before .before .args in
-    put-short (pfBytes (a .t) (a .page)) (a .rest .now) false refl (c .if1 .taken)
+    let start = c .before .before in
+    let page = start .args .page in
+    let rest = start .args .rest .now in
+    let t = start .args .t in
+    put-short (pfBytes t page) rest false refl (c .if1 .taken)
 
 returns-2 : tie.Need-returns-2
 returns-2 c =
-    let a = c .before .before .before .before .before .before .before .before .before .before .before .before .before .before .args in
-    put-whole (pfBytes (a .t) (a .page)) (a .rest .now) _ _ false refl refl
-    (c .before .before .before .before .before .before .before .before .before .before .before .before .if1 .left)
-    (stored3 (a .rest .now) (bytes16 markPF) (bytes32 (a .t)) (bytes32 (a .page))
-    (c .before .before .before .before .before .before .before .before .before .before .write16 .last .0)
-    (c .before .before .before .before .before .before .write32 .last .0) (c .before .before .write322 .last .0) (omega arith)
-    (c .before .before .before .before .before .before .before .before .before .before .write16 .ensures)
-    (c .before .before .before .before .before .before .write32 .ensures) (c .before .before .write322 .ensures))
+    let start = c .before .before .before .before .before .before .before .before .before .before .before .before .before .before in
+    let page = start .args .page in
+    let rest = start .args .rest .now in
+    let t = start .args .t in
+    let if1 = c .before .before .before .before .before .before .before .before .before .before .before .before .if1 in
+    let write16 = c .before .before .before .before .before .before .before .before .before .before .write16 in
+    let write32 = c .before .before .before .before .before .before .write32 in
+    let write322 = c .before .before .write322 in
+    put-whole (pfBytes t page) rest _ _ false refl refl
+    (if1 .left)
+    (stored3 rest (bytes16 markPF) (bytes32 t) (bytes32 page)
+    (write16 .last .0)
+    (write32 .last .0) (write322 .last .0) (omega arith)
+    (write16 .ensures)
+    (write32 .ensures) (write322 .ensures))
 
 pub pf-spec : {M : Type 1} → statement M
 pf-spec =

@@ -12,16 +12,23 @@ use Rattle.records.proofs.put.rq.Tie as tie
 
 returns : tie.Need-returns
 returns c =
-    let a = c .before .before .args in
-    put-short (rqBytes (a .page)) (a .rest .now) false refl (c .if1 .taken)
+    let start = c .before .before in
+    let page = start .args .page in
+    let rest = start .args .rest .now in
+    put-short (rqBytes page) rest false refl (c .if1 .taken)
 
 returns-2 : tie.Need-returns-2
 returns-2 c =
-    let a = c .before .before .before .before .before .before .before .before .before .before .args in
-    put-whole (rqBytes (a .page)) (a .rest .now) _ _ false refl refl (c .before .before .before .before .before .before .before .before .if1 .left)
-    (stored2 (a .rest .now) (bytes16 markRQ) (bytes32 (a .page)) (c .before .before .before .before .before .before .write16 .last .0)
-    (c .before .before .write32 .last .0) (omega arith) (c .before .before .before .before .before .before .write16 .ensures)
-    (c .before .before .write32 .ensures))
+    let start = c .before .before .before .before .before .before .before .before .before .before in
+    let page = start .args .page in
+    let rest = start .args .rest .now in
+    let if1 = c .before .before .before .before .before .before .before .before .if1 in
+    let write16 = c .before .before .before .before .before .before .write16 in
+    let write32 = c .before .before .write32 in
+    put-whole (rqBytes page) rest _ _ false refl refl (if1 .left)
+    (stored2 rest (bytes16 markRQ) (bytes32 page) (write16 .last .0)
+    (write32 .last .0) (omega arith) (write16 .ensures)
+    (write32 .ensures))
 
 pub rq-spec : {M : Type 1} → statement M
 rq-spec = tie.close (tie.spec returns (λ c κs. search needs) (λ c κs. search needs) (λ c. search needs) returns-2)

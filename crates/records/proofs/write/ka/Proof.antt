@@ -12,67 +12,109 @@ use Rattle.records.proofs.write.ka.Tie as tie
 returns : tie.Need-returns
 unfolding kaRefusal
 returns c =
-    let a = c .before .before .before .args in
-    refuses (kaBytes (a .k) (a .a)) (a .out .now) (a .at) _ (kaRefusal (a .k) (a .a) (a .out .now) (a .at)) (c .if1 .taken)
-    (sizes-refuse (a .k) (a .a) _ _ (c .before .refusal .ensures) (c .if1 .taken))
+    let start = c .before .before .before in
+    let a = start .args .a in
+    let offset = start .args .at in
+    let k = start .args .k in
+    let out = start .args .out .now in
+    refuses (kaBytes k a) out offset _ (kaRefusal k a out offset) (c .if1 .taken)
+    (sizes-refuse k a _ _ (c .before .refusal .ensures) (c .if1 .taken))
 
 returns-2 : tie.Need-returns-2
 unfolding kaRefusal
 returns-2 c =
-    let a = c .before .before .before .before .before .args in
-    refuses (kaBytes (a .k) (a .a)) (a .out .now) (a .at) _ (kaRefusal (a .k) (a .a) (a .out .now) (a .at)) (c .if2 .taken)
-    (sizes-pass (a .k) (a .a) _ _ (c .before .before .before .refusal .ensures) (c .before .before .if1 .left) ∙
-    (sym (room-by (kaBytes (a .k) (a .a)) (a .out .now) (a .at) _ _ refl (c .before .room .ensures))))
+    let start = c .before .before .before .before .before in
+    let a = start .args .a in
+    let offset = start .args .at in
+    let k = start .args .k in
+    let out = start .args .out .now in
+    let refusal = c .before .before .before .refusal in
+    let if1 = c .before .before .if1 in
+    refuses (kaBytes k a) out offset _ (kaRefusal k a out offset) (c .if2 .taken)
+    (sizes-pass k a _ _ (refusal .ensures) (if1 .left) ∙
+    (sym (room-by (kaBytes k a) out offset _ _ refl (c .before .room .ensures))))
 
 sub-ka : tie.Need-sub-ka
 sub-ka c =
-    let a = c .before .before .before .before .before .args in
+    let start = c .before .before .before .before .before in
+    let a = start .args .a in
+    let offset = start .args .at in
+    let k = start .args .k in
+    let out = start .args .out .now in
     omega (
       arith,
-      room-fits (kaBytes (a .k) (a .a)) (a .out .now) (a .at)
-          (sym (c .if2 .left) ∙ room-by (kaBytes (a .k) (a .a)) (a .out .now) (a .at) _ _ refl (c .before .room .ensures)),
+      room-fits (kaBytes k a) out offset
+          (sym (c .if2 .left) ∙ room-by (kaBytes k a) out offset _ _ refl (c .before .room .ensures)),
     )
 
 part-ka-start : tie.Need-part-ka-start
 part-ka-start c =
-    let a = c .before .before .before .before .before .args in
+    let start = c .before .before .before .before .before in
+    let a = start .args .a in
+    let offset = start .args .at in
+    let k = start .args .k in
+    let out = start .args .out .now in
     omega (
       arith,
-      room-fits (kaBytes (a .k) (a .a)) (a .out .now) (a .at)
-          (sym (c .if2 .left) ∙ room-by (kaBytes (a .k) (a .a)) (a .out .now) (a .at) _ _ refl (c .before .room .ensures)),
+      room-fits (kaBytes k a) out offset
+          (sym (c .if2 .left) ∙ room-by (kaBytes k a) out offset _ _ refl (c .before .room .ensures)),
     )
 
 cast-ka : tie.Need-cast-ka
 cast-ka c =
-    let a = c .before .before .before .before .before .before .args in
-    omega (arith, sizes-fine (a .k) (a .a) _ (c .before .before .before .before .refusal .ensures) (c .before .before .before .if1 .left))
+    let start = c .before .before .before .before .before .before in
+    let a = start .args .a in
+    let k = start .args .k in
+    let refusal = c .before .before .before .before .refusal in
+    let if1 = c .before .before .before .if1 in
+    omega (arith, sizes-fine k a _ (refusal .ensures) (if1 .left))
 
 cast-ka-2 : tie.Need-cast-ka-2
 cast-ka-2 c =
-    let a = c .before .before .before .before .before .before .args in
-    omega (arith, sizes-fine (a .k) (a .a) _ (c .before .before .before .before .refusal .ensures) (c .before .before .before .if1 .left))
+    let start = c .before .before .before .before .before .before in
+    let a = start .args .a in
+    let k = start .args .k in
+    let refusal = c .before .before .before .before .refusal in
+    let if1 = c .before .before .before .if1 in
+    omega (arith, sizes-fine k a _ (refusal .ensures) (if1 .left))
 
 add-t10 : tie.Need-add-t10
 add-t10 c =
-    let a = c .before .before .before .before .before .before .before .before .before .args in
-    let none = sym (c .before .before .before .before .if2 .left) ∙ room-by (kaBytes (a .k) (a .a)) (a .out .now) (a .at) _ _ refl
-    (c .before .before .before .before .before .room .ensures) in
+    let start = c .before .before .before .before .before .before .before .before .before in
+    let a = start .args .a in
+    let offset = start .args .at in
+    let k = start .args .k in
+    let out = start .args .out .now in
+    let room = c .before .before .before .before .before .room in
+    let if2 = c .before .before .before .before .if2 in
+    let ka = c .before .before .ka in
+    let none = sym (if2 .left) ∙ room-by (kaBytes k a) out offset _ _ refl
+    (room .ensures) in
     omega (
       arith,
-      put-fits (kaBytes (a .k) (a .a)) (a .out .now) (a .at) none (c .before .before .ka .result) (c .before .before .ka .last .0) false refl
-          (c .before .before .ka .ensures .0) (c .before .before .ka .ensures .1),
+      put-fits (kaBytes k a) out offset none (ka .result) (ka .last .0) false refl
+          (ka .ensures .0) (ka .ensures .1),
     )
 
 returns-3 : tie.Need-returns-3
 unfolding kaRefusal
 returns-3 c =
-    let a = c .before .before .before .before .before .before .before .before .before .args in
-    let none = sym (c .before .before .before .before .if2 .left) ∙ room-by (kaBytes (a .k) (a .a)) (a .out .now) (a .at) _ _ refl
-    (c .before .before .before .before .before .room .ensures) in
-    put-writes (kaBytes (a .k) (a .a)) (a .out .now) (a .at) none (c .before .before .ka .result) (c .before .before .ka .last .0) false refl
-    (c .before .before .ka .ensures .0) (c .before .before .ka .ensures .1) (kaRefusal (a .k) (a .a) (a .out .now) (a .at))
-    (sizes-pass (a .k) (a .a) _ _ (c .before .before .before .before .before .before .before .refusal .ensures)
-    (c .before .before .before .before .before .before .if1 .left) ∙ (sym none))
+    let start = c .before .before .before .before .before .before .before .before .before in
+    let a = start .args .a in
+    let offset = start .args .at in
+    let k = start .args .k in
+    let out = start .args .out .now in
+    let refusal = c .before .before .before .before .before .before .before .refusal in
+    let if1 = c .before .before .before .before .before .before .if1 in
+    let room = c .before .before .before .before .before .room in
+    let if2 = c .before .before .before .before .if2 in
+    let ka = c .before .before .ka in
+    let none = sym (if2 .left) ∙ room-by (kaBytes k a) out offset _ _ refl
+    (room .ensures) in
+    put-writes (kaBytes k a) out offset none (ka .result) (ka .last .0) false refl
+    (ka .ensures .0) (ka .ensures .1) (kaRefusal k a out offset)
+    (sizes-pass k a _ _ (refusal .ensures)
+    (if1 .left) ∙ (sym none))
 
 pub ka-spec : {M : Type 1} → statement M
 ka-spec =

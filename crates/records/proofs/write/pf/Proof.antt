@@ -12,47 +12,73 @@ use Rattle.records.proofs.write.pf.Tie as tie
 returns : tie.Need-returns
 unfolding pfRefusal
 returns c =
-    let a = c .before .before .before .args in
-    refuses (pfBytes (a .t) (a .page)) (a .out .now) (a .at) _ (pfRefusal (a .t) (a .page) (a .out .now) (a .at)) (c .if1 .taken)
-    ((sym (room-by (pfBytes (a .t) (a .page)) (a .out .now) (a .at) _ _ refl (c .before .room .ensures))))
+    let start = c .before .before .before in
+    let offset = start .args .at in
+    let out = start .args .out .now in
+    let page = start .args .page in
+    let t = start .args .t in
+    refuses (pfBytes t page) out offset _ (pfRefusal t page out offset) (c .if1 .taken)
+    ((sym (room-by (pfBytes t page) out offset _ _ refl (c .before .room .ensures))))
 
 sub-pf : tie.Need-sub-pf
 sub-pf c =
-    let a = c .before .before .before .args in
+    let start = c .before .before .before in
+    let offset = start .args .at in
+    let out = start .args .out .now in
+    let page = start .args .page in
+    let t = start .args .t in
     omega (
       arith,
-      room-fits (pfBytes (a .t) (a .page)) (a .out .now) (a .at)
-          (sym (c .if1 .left) ∙ room-by (pfBytes (a .t) (a .page)) (a .out .now) (a .at) _ _ refl (c .before .room .ensures)),
+      room-fits (pfBytes t page) out offset
+          (sym (c .if1 .left) ∙ room-by (pfBytes t page) out offset _ _ refl (c .before .room .ensures)),
     )
 
 part-pf-start : tie.Need-part-pf-start
 part-pf-start c =
-    let a = c .before .before .before .args in
+    let start = c .before .before .before in
+    let offset = start .args .at in
+    let out = start .args .out .now in
+    let page = start .args .page in
+    let t = start .args .t in
     omega (
       arith,
-      room-fits (pfBytes (a .t) (a .page)) (a .out .now) (a .at)
-          (sym (c .if1 .left) ∙ room-by (pfBytes (a .t) (a .page)) (a .out .now) (a .at) _ _ refl (c .before .room .ensures)),
+      room-fits (pfBytes t page) out offset
+          (sym (c .if1 .left) ∙ room-by (pfBytes t page) out offset _ _ refl (c .before .room .ensures)),
     )
 
 add-t7 : tie.Need-add-t7
 add-t7 c =
-    let a = c .before .before .before .before .before .before .before .args in
-    let none = sym (c .before .before .before .before .if1 .left) ∙ room-by (pfBytes (a .t) (a .page)) (a .out .now) (a .at) _ _ refl
-    (c .before .before .before .before .before .room .ensures) in
+    let start = c .before .before .before .before .before .before .before in
+    let offset = start .args .at in
+    let out = start .args .out .now in
+    let page = start .args .page in
+    let t = start .args .t in
+    let room = c .before .before .before .before .before .room in
+    let if1 = c .before .before .before .before .if1 in
+    let pf = c .before .before .pf in
+    let none = sym (if1 .left) ∙ room-by (pfBytes t page) out offset _ _ refl
+    (room .ensures) in
     omega (
       arith,
-      put-fits (pfBytes (a .t) (a .page)) (a .out .now) (a .at) none (c .before .before .pf .result) (c .before .before .pf .last .0) false refl
-          (c .before .before .pf .ensures .0) (c .before .before .pf .ensures .1),
+      put-fits (pfBytes t page) out offset none (pf .result) (pf .last .0) false refl
+          (pf .ensures .0) (pf .ensures .1),
     )
 
 returns-2 : tie.Need-returns-2
 unfolding pfRefusal
 returns-2 c =
-    let a = c .before .before .before .before .before .before .before .args in
-    let none = sym (c .before .before .before .before .if1 .left) ∙ room-by (pfBytes (a .t) (a .page)) (a .out .now) (a .at) _ _ refl
-    (c .before .before .before .before .before .room .ensures) in
-    put-writes (pfBytes (a .t) (a .page)) (a .out .now) (a .at) none (c .before .before .pf .result) (c .before .before .pf .last .0) false refl
-    (c .before .before .pf .ensures .0) (c .before .before .pf .ensures .1) (pfRefusal (a .t) (a .page) (a .out .now) (a .at)) ((sym none))
+    let start = c .before .before .before .before .before .before .before in
+    let offset = start .args .at in
+    let out = start .args .out .now in
+    let page = start .args .page in
+    let t = start .args .t in
+    let room = c .before .before .before .before .before .room in
+    let if1 = c .before .before .before .before .if1 in
+    let pf = c .before .before .pf in
+    let none = sym (if1 .left) ∙ room-by (pfBytes t page) out offset _ _ refl
+    (room .ensures) in
+    put-writes (pfBytes t page) out offset none (pf .result) (pf .last .0) false refl
+    (pf .ensures .0) (pf .ensures .1) (pfRefusal t page out offset) ((sym none))
 
 pub pf-spec : {M : Type 1} → statement M
 pf-spec =

@@ -12,47 +12,68 @@ use Rattle.records.proofs.write.rq.Tie as tie
 returns : tie.Need-returns
 unfolding rqRefusal
 returns c =
-    let a = c .before .before .before .args in
-    refuses (rqBytes (a .page)) (a .out .now) (a .at) _ (rqRefusal (a .page) (a .out .now) (a .at)) (c .if1 .taken)
-    ((sym (room-by (rqBytes (a .page)) (a .out .now) (a .at) _ _ refl (c .before .room .ensures))))
+    let start = c .before .before .before in
+    let offset = start .args .at in
+    let out = start .args .out .now in
+    let page = start .args .page in
+    refuses (rqBytes page) out offset _ (rqRefusal page out offset) (c .if1 .taken)
+    ((sym (room-by (rqBytes page) out offset _ _ refl (c .before .room .ensures))))
 
 sub-rq : tie.Need-sub-rq
 sub-rq c =
-    let a = c .before .before .before .args in
+    let start = c .before .before .before in
+    let offset = start .args .at in
+    let out = start .args .out .now in
+    let page = start .args .page in
     omega (
       arith,
-      room-fits (rqBytes (a .page)) (a .out .now) (a .at)
-          (sym (c .if1 .left) ∙ room-by (rqBytes (a .page)) (a .out .now) (a .at) _ _ refl (c .before .room .ensures)),
+      room-fits (rqBytes page) out offset
+          (sym (c .if1 .left) ∙ room-by (rqBytes page) out offset _ _ refl (c .before .room .ensures)),
     )
 
 part-rq-start : tie.Need-part-rq-start
 part-rq-start c =
-    let a = c .before .before .before .args in
+    let start = c .before .before .before in
+    let offset = start .args .at in
+    let out = start .args .out .now in
+    let page = start .args .page in
     omega (
       arith,
-      room-fits (rqBytes (a .page)) (a .out .now) (a .at)
-          (sym (c .if1 .left) ∙ room-by (rqBytes (a .page)) (a .out .now) (a .at) _ _ refl (c .before .room .ensures)),
+      room-fits (rqBytes page) out offset
+          (sym (c .if1 .left) ∙ room-by (rqBytes page) out offset _ _ refl (c .before .room .ensures)),
     )
 
 add-t6 : tie.Need-add-t6
 add-t6 c =
-    let a = c .before .before .before .before .before .before .before .args in
-    let none = sym (c .before .before .before .before .if1 .left) ∙ room-by (rqBytes (a .page)) (a .out .now) (a .at) _ _ refl
-    (c .before .before .before .before .before .room .ensures) in
+    let start = c .before .before .before .before .before .before .before in
+    let offset = start .args .at in
+    let out = start .args .out .now in
+    let page = start .args .page in
+    let room = c .before .before .before .before .before .room in
+    let if1 = c .before .before .before .before .if1 in
+    let rq = c .before .before .rq in
+    let none = sym (if1 .left) ∙ room-by (rqBytes page) out offset _ _ refl
+    (room .ensures) in
     omega (
       arith,
-      put-fits (rqBytes (a .page)) (a .out .now) (a .at) none (c .before .before .rq .result) (c .before .before .rq .last .0) false refl
-          (c .before .before .rq .ensures .0) (c .before .before .rq .ensures .1),
+      put-fits (rqBytes page) out offset none (rq .result) (rq .last .0) false refl
+          (rq .ensures .0) (rq .ensures .1),
     )
 
 returns-2 : tie.Need-returns-2
 unfolding rqRefusal
 returns-2 c =
-    let a = c .before .before .before .before .before .before .before .args in
-    let none = sym (c .before .before .before .before .if1 .left) ∙ room-by (rqBytes (a .page)) (a .out .now) (a .at) _ _ refl
-    (c .before .before .before .before .before .room .ensures) in
-    put-writes (rqBytes (a .page)) (a .out .now) (a .at) none (c .before .before .rq .result) (c .before .before .rq .last .0) false refl
-    (c .before .before .rq .ensures .0) (c .before .before .rq .ensures .1) (rqRefusal (a .page) (a .out .now) (a .at)) ((sym none))
+    let start = c .before .before .before .before .before .before .before in
+    let offset = start .args .at in
+    let out = start .args .out .now in
+    let page = start .args .page in
+    let room = c .before .before .before .before .before .room in
+    let if1 = c .before .before .before .before .if1 in
+    let rq = c .before .before .rq in
+    let none = sym (if1 .left) ∙ room-by (rqBytes page) out offset _ _ refl
+    (room .ensures) in
+    put-writes (rqBytes page) out offset none (rq .result) (rq .last .0) false refl
+    (rq .ensures .0) (rq .ensures .1) (rqRefusal page out offset) ((sym none))
 
 pub rq-spec : {M : Type 1} → statement M
 rq-spec =

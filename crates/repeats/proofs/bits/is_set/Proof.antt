@@ -4,7 +4,11 @@ use Rattle.repeats.proofs.bits.is_set.Statement.{statement}
 use Rattle.repeats.proofs.bits.is_set.Tie as tie
 
 returns : tie.Need-returns
-returns c = set-is (c .before .before .before .args .marks .now) (c .before .before .before .args .bit) (c .bit-in-word .result) (c .bit-in-word .ensures)
+returns c =
+    let start = c .before .before .before in
+    let bit = start .args .bit in
+    let marks = start .args .marks .now in
+    set-is marks bit (c .bit-in-word .result) (c .bit-in-word .ensures)
 
 pub is-set-spec : {M : Type 1} → statement M
 is-set-spec =

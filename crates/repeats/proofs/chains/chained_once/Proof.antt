@@ -16,83 +16,122 @@ abbrev μ-loop : tie.MeasureT-loop
 μ-loop pages heads₀ before₀ mask i₀ heads before i = length pages - i
 
 loop-holds : tie.Need-loop-holds Inv-loop μ-loop
-loop-holds c = (omega arith, (refl, (refl, threaded-none _ _ _ _ (c .before .before .before .pre .none))))
+loop-holds c =
+    let pre = c .before .before .before .pre in
+    (omega arith, (refl, (refl, threaded-none _ _ _ _ (pre .none))))
 
 mul-last : tie.Need-mul-last Inv-loop μ-loop
 mul-last c =
-    let s = c .before .before .before .before .before .before .before in
-    let at = c .before .before .before .loop in
+    let start = c .before .before .before .before .before .before .before in
+    let mask = start .args .mask in
+    let pages = start .args .pages .now in
+    let pre = start .pre in
+    let loop = c .before .before .before .loop in
+    let at = loop in
     let e = c .slot .ensures in
-    let b = slot-le (s .args .mask) (getD (s .args .pages .now) (at .i) 0) in
-    let m = s .pre .slots in
+    let b = slot-le mask (getD pages (at .i) 0) in
+    let m = pre .slots in
     let l = at .inv .1 .0 in
     omega arith
 
 slice-read-last : tie.Need-slice-read-last Inv-loop μ-loop
 slice-read-last c =
-    let s = c .before .before .before .before .before .before .before .before in
-    let at = c .before .before .before .before .loop in
+    let start = c .before .before .before .before .before .before .before .before in
+    let mask = start .args .mask in
+    let pages = start .args .pages .now in
+    let pre = start .pre in
+    let loop = c .before .before .before .before .loop in
+    let at = loop in
     let e = c .before .slot .ensures in
-    let b = slot-le (s .args .mask) (getD (s .args .pages .now) (at .i) 0) in
-    let m = s .pre .slots in
+    let b = slot-le mask (getD pages (at .i) 0) in
+    let m = pre .slots in
     let l = at .inv .1 .0 in
     omega arith
 
 in-chain-requires : tie.Need-in-chain-requires Inv-loop μ-loop
 in-chain-requires c κs =
-    let s = c .before .before .before .before .before .before .before .before .before in
-    let at = c .before .before .before .before .before .loop in
-    let p = s .pre .places in
+    let start = c .before .before .before .before .before .before .before .before .before in
+    let mask = start .args .mask in
+    let pages = start .args .pages .now in
+    let pre = start .pre in
+    let loop = c .before .before .before .before .before .loop in
+    let slot = c .before .before .slot in
+    let at = loop in
+    let p = pre .places in
     let l = at .inv .1 .1 .0 in
-    threaded-linked (s .args .mask) (s .args .pages .now) (at .heads) (at .before) (at .i) (c .before .before .slot .result) (omega arith) (omega arith) (at .inv .1 .1 .1)
+    threaded-linked mask pages (at .heads) (at .before) (at .i) (slot .result) (omega arith) (omega arith) (at .inv .1 .1 .1)
 
 returns : tie.Need-returns Inv-loop μ-loop
 returns c =
-    let s = c .before .before .before .before .before .before .before .before .before .before .before in
-    let at = c .before .before .before .before .before .before .before .loop in
-    sym (found-twice (s .args .mask) (s .args .pages .now) (at .heads) (at .before) (at .i) (c .before .before .before .before .slot .result) (c .before .before .before .before .before .before .loop-test .taken) (at .inv .1 .1 .1) (c .before .before .before .before .slot .ensures) (sym (c .before .in-chain .ensures) ∙ c .if1 .taken))
+    let start = c .before .before .before .before .before .before .before .before .before .before .before in
+    let mask = start .args .mask in
+    let pages = start .args .pages .now in
+    let loop = c .before .before .before .before .before .before .before .loop in
+    let loop-test = c .before .before .before .before .before .before .loop-test in
+    let slot = c .before .before .before .before .slot in
+    let at = loop in
+    sym (found-twice mask pages (at .heads) (at .before) (at .i) (slot .result) (loop-test .taken) (at .inv .1 .1 .1) (slot .ensures)
+    (sym (c .before .in-chain .ensures) ∙ c .if1 .taken))
 
 slice-write-before : tie.Need-slice-write-before Inv-loop μ-loop
 slice-write-before c =
-    let s = c .before .before .before .before .before .before .before .before .before .before .before in
-    let at = c .before .before .before .before .before .before .before .loop in
-    let p = s .pre .places in
+    let pre = c .before .before .before .before .before .before .before .before .before .before .before .pre in
+    let loop = c .before .before .before .before .before .before .before .loop in
+    let at = loop in
+    let p = pre .places in
     let l = at .inv .1 .1 .0 in
     omega arith
 
 cast-heads : tie.Need-cast-heads Inv-loop μ-loop
 cast-heads c =
-    let s = c .before .before .before .before .before .before .before .before .before .before .before in
-    let at = c .before .before .before .before .before .before .before .loop in
-    let p = s .pre .limit in
+    let pre = c .before .before .before .before .before .before .before .before .before .before .before .pre in
+    let loop = c .before .before .before .before .before .before .before .loop in
+    let at = loop in
+    let p = pre .limit in
     omega arith
 
 mul-heads : tie.Need-mul-heads Inv-loop μ-loop
 mul-heads c =
-    let s = c .before .before .before .before .before .before .before .before .before .before .before in
-    let at = c .before .before .before .before .before .before .before .loop in
-    let e = c .before .before .before .before .slot .ensures in
-    let b = slot-le (s .args .mask) (getD (s .args .pages .now) (at .i) 0) in
-    let m = s .pre .slots in
+    let start = c .before .before .before .before .before .before .before .before .before .before .before in
+    let mask = start .args .mask in
+    let pages = start .args .pages .now in
+    let pre = start .pre in
+    let loop = c .before .before .before .before .before .before .before .loop in
+    let slot = c .before .before .before .before .slot in
+    let at = loop in
+    let e = slot .ensures in
+    let b = slot-le mask (getD pages (at .i) 0) in
+    let m = pre .slots in
     let l = at .inv .1 .0 in
     omega arith
 
 slice-write-heads : tie.Need-slice-write-heads Inv-loop μ-loop
 slice-write-heads c =
-    let s = c .before .before .before .before .before .before .before .before .before .before .before in
-    let at = c .before .before .before .before .before .before .before .loop in
-    let e = c .before .before .before .before .slot .ensures in
-    let b = slot-le (s .args .mask) (getD (s .args .pages .now) (at .i) 0) in
-    let m = s .pre .slots in
+    let start = c .before .before .before .before .before .before .before .before .before .before .before in
+    let mask = start .args .mask in
+    let pages = start .args .pages .now in
+    let pre = start .pre in
+    let loop = c .before .before .before .before .before .before .before .loop in
+    let slot = c .before .before .before .before .slot in
+    let at = loop in
+    let e = slot .ensures in
+    let b = slot-le mask (getD pages (at .i) 0) in
+    let m = pre .slots in
     let l = at .inv .1 .0 in
     omega arith
 
 loop-again : tie.Need-loop-again Inv-loop μ-loop
 loop-again c =
-    let s = c .before .before .before .before .before .before .before .before .before .before .before in
-    let at = c .before .before .before .before .before .before .before .loop in
-    let p = s .pre .places in
-    let q = s .pre .slots in
+    let start = c .before .before .before .before .before .before .before .before .before .before .before in
+    let mask = start .args .mask in
+    let pages = start .args .pages .now in
+    let pre = start .pre in
+    let loop = c .before .before .before .before .before .before .before .loop in
+    let loop-test = c .before .before .before .before .before .before .loop-test in
+    let slot = c .before .before .before .before .slot in
+    let at = loop in
+    let p = pre .places in
+    let q = pre .slots in
     let m = at .inv .1 .0 in
     let l = at .inv .1 .1 .0 in (
       omega arith,
@@ -100,7 +139,8 @@ loop-again c =
         simp length-set (omega arith),
         (
           simp length-set (omega arith),
-          found-new (s .args .mask) (s .args .pages .now) (at .heads) (at .before) (at .i) (c .before .before .before .before .slot .result) (c .before .before .before .before .before .before .loop-test .taken) (at .inv .1 .1 .1) (c .before .before .before .before .slot .ensures) (omega arith) (omega arith) (sym (c .before .in-chain .ensures) ∙ c .if1 .left),
+          found-new mask pages (at .heads) (at .before) (at .i) (slot .result) (loop-test .taken) (at .inv .1 .1 .1) (slot .ensures) (omega arith) (omega arith)
+              (sym (c .before .in-chain .ensures) ∙ c .if1 .left),
         ),
       ),
     )

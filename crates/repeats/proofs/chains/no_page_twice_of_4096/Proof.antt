@@ -6,7 +6,9 @@ use Rattle.repeats.proofs.chains.no_page_twice_of_4096.Statement.{state
 use Rattle.repeats.proofs.chains.no_page_twice_of_4096.Tie as tie
 
 chained-once-requires : tie.Need-chained-once-requires
-chained-once-requires c κs = unlinked 16383 16384 4096 (c .before .before .before .args .pages .now) (omega arith) (omega arith) (omega arith)
+chained-once-requires c κs =
+    let pages = c .before .before .before .args .pages .now in
+    unlinked 16383 16384 4096 pages (omega arith) (omega arith) (omega arith)
 
 pub no-page-twice-of-4096-spec : {M : Type 1} → statement M
 no-page-twice-of-4096-spec =

@@ -6,7 +6,9 @@ use Rattle.repeats.proofs.chains.no_page_twice_of_65536.Statement.{stat
 use Rattle.repeats.proofs.chains.no_page_twice_of_65536.Tie as tie
 
 chained-once-requires : tie.Need-chained-once-requires
-chained-once-requires c κs = unlinked 65535 65536 65536 (c .before .before .before .args .pages .now) (omega arith) (omega arith) (omega arith)
+chained-once-requires c κs =
+    let pages = c .before .before .before .args .pages .now in
+    unlinked 65535 65536 65536 pages (omega arith) (omega arith) (omega arith)
 
 pub no-page-twice-of-65536-spec : {M : Type 1} → statement M
 no-page-twice-of-65536-spec =

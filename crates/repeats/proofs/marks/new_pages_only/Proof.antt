@@ -20,44 +20,63 @@ loop-holds c = (omega arith, (refl, fresh-none _ _ _))
 
 slice-read-mark : tie.Need-slice-read-mark Inv-loop μ-loop
 slice-read-mark c =
-    let s = c .before .before .before .before .before .before .before in
-    let at = c .before .before .before .before .loop in
-    omega (arith, c .before .slot .ensures, slot-le (s .args .mask) (getD (s .args .pages .now) (at .next) 0))
+    let start = c .before .before .before .before .before .before .before in
+    let mask = start .args .mask in
+    let pages = start .args .pages .now in
+    let loop = c .before .before .before .before .loop in
+    let at = loop in
+    omega (arith, c .before .slot .ensures, slot-le mask (getD pages (at .next) 0))
 
 slice-write-marks : tie.Need-slice-write-marks Inv-loop μ-loop
 slice-write-marks c =
-    let s = c .before .before .before .before .before .before .before in
-    let at = c .before .before .before .before .loop in
-    omega (arith, c .before .slot .ensures, slot-le (s .args .mask) (getD (s .args .pages .now) (at .next) 0))
+    let start = c .before .before .before .before .before .before .before in
+    let mask = start .args .mask in
+    let pages = start .args .pages .now in
+    let loop = c .before .before .before .before .loop in
+    let at = loop in
+    omega (arith, c .before .slot .ensures, slot-le mask (getD pages (at .next) 0))
 
 slice-aggregate-has : tie.Need-slice-aggregate-has Inv-loop μ-loop
 slice-aggregate-has c = simp length-take (omega arith)
 
 returns : tie.Need-returns Inv-loop μ-loop
 returns c =
-    let s = c .before .before .before .before .before .before .before .before .before .before .before in
-    let at = c .before .before .before .before .before .before .before .before .loop in
-    sym (twice-at (s .args .pages .now) (at .next) (c .before .before .before .before .before .before .before .loop-test .taken) (sym (c .before .has .ensures) ∙ c .if2 .taken))
+    let pages = c .before .before .before .before .before .before .before .before .before .before .before .args .pages .now in
+    let loop = c .before .before .before .before .before .before .before .before .loop in
+    let loop-test = c .before .before .before .before .before .before .before .loop-test in
+    let at = loop in
+    sym (twice-at pages (at .next) (loop-test .taken) (sym (c .before .has .ensures) ∙ c .if2 .taken))
 
 loop-again : tie.Need-loop-again Inv-loop μ-loop
 loop-again c =
-    let s = c .before .before .before .before .before .before .before .before .before .before .before in
-    let at = c .before .before .before .before .before .before .before .before .loop in (
+    let start = c .before .before .before .before .before .before .before .before .before .before .before in
+    let mask = start .args .mask in
+    let pages = start .args .pages .now in
+    let loop = c .before .before .before .before .before .before .before .before .loop in
+    let loop-test = c .before .before .before .before .before .before .before .loop-test in
+    let slot = c .before .before .before .before .before .slot in
+    let at = loop in (
       omega arith,
       (
         simp length-set (omega arith),
-        fresh-looked (s .args .mask) (at .marks) (s .args .pages .now) (at .next) (c .before .before .before .before .before .before .before .loop-test .taken) (c .before .before .before .before .before .slot .result) (c .before .before .before .before .before .slot .ensures) (omega arith) (at .inv .1 .1) (sym (c .before .has .ensures) ∙ c .if2 .left),
+        fresh-looked mask (at .marks) pages (at .next) (loop-test .taken) (slot .result) (slot .ensures) (omega arith) (at .inv .1 .1)
+            (sym (c .before .has .ensures) ∙ c .if2 .left),
       ),
     )
 
 loop-again-2 : tie.Need-loop-again-2 Inv-loop μ-loop
 loop-again-2 c =
-    let s = c .before .before .before .before .before .before .before .before in
-    let at = c .before .before .before .before .before .loop in (
+    let start = c .before .before .before .before .before .before .before .before in
+    let mask = start .args .mask in
+    let pages = start .args .pages .now in
+    let loop = c .before .before .before .before .before .loop in
+    let loop-test = c .before .before .before .before .loop-test in
+    let slot = c .before .before .slot in
+    let at = loop in (
       omega arith,
       (
         simp length-set (omega arith),
-        fresh-unmarked (s .args .mask) (at .marks) (s .args .pages .now) (at .next) (c .before .before .before .before .loop-test .taken) (c .before .before .slot .result) (c .before .before .slot .ensures) (omega arith) (at .inv .1 .1) (omega arith),
+        fresh-unmarked mask (at .marks) pages (at .next) (loop-test .taken) (slot .result) (slot .ensures) (omega arith) (at .inv .1 .1) (omega arith),
       ),
     )
 

@@ -3,44 +3,27 @@ use Rattle.report.proofs.FiguresLaws.{figures-told}
 use Rattle.report.proofs.figures.of.Statement.{statement}
 use Rattle.report.proofs.figures.of.Tie as tie
 
--- src/figures.rt:15:9
-count-requires : tie.Need-count-requires
-count-requires c κs = search needs
-
--- src/figures.rt:16:9
-over-trace-requires : tie.Need-over-trace-requires
-over-trace-requires c κs = search needs
-
--- src/figures.rt:19:51
-slice-aggregate-over-trace : tie.Need-slice-aggregate-over-trace
-slice-aggregate-over-trace c = search needs
-
--- src/figures.rt:19:63
-slice-aggregate-over-trace-2 : tie.Need-slice-aggregate-over-trace-2
-slice-aggregate-over-trace-2 c = search needs
-
--- src/figures.rt:19:9
-over-trace-requires-2 : tie.Need-over-trace-requires-2
-over-trace-requires-2 c κs = search needs
-
--- src/figures.rt:37:19
-cast-t17 : tie.Need-cast-t17
-cast-t17 c = search needs
-
--- src/figures.rt:11:1
 returns : tie.Need-returns
 returns c =
-    let p = c .before .before .before .before .before .before .before .before .pre in
-    figures-told (c .before .before .before .before .before .before .before .before .args .k) (c .before .before .before .before .before .before .before .before .args .a) (c .before .before .before .before .before .before .before .before .args .trace .now) (p .0) (p .1) (p .2) (p .3) (c .before .before .before .before .before .before .count .result) (c .before .before .before .before .before .over-trace .result) (c .before .before .over-trace2 .result) (c .before .before .before .before .before .before .count .ensures) (c .before .before .before .before .before .over-trace .ensures) (c .before .before .over-trace2 .ensures .0)
+    let start = c .before .before .before .before .before .before .before .before in
+    let a = start .args .a in
+    let k = start .args .k in
+    let trace = start .args .trace .now in
+    let pre = start .pre in
+    let count = c .before .before .before .before .before .before .count in
+    let over-trace = c .before .before .before .before .before .over-trace in
+    let over-trace2 = c .before .before .over-trace2 in
+    figures-told k a trace (pre .0) (pre .1) (pre .2) (pre .3) (count .result) (over-trace .result) (over-trace2 .result) (count .ensures) (over-trace .ensures)
+    (over-trace2 .ensures .0)
 
 pub of-spec : {M : Type 1} → statement M
 of-spec =
     tie.close
     (tie.spec
-    count-requires
-    over-trace-requires
-    slice-aggregate-over-trace
-    slice-aggregate-over-trace-2
-    over-trace-requires-2
-    cast-t17
+    (λ c κs. search needs)
+    (λ c κs. search needs)
+    (λ c. search needs)
+    (λ c. search needs)
+    (λ c κs. search needs)
+    (λ c. search needs)
     returns)

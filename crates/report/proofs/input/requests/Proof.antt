@@ -13,81 +13,47 @@ Inv-loop file pages₀ at₀ n₀ pages at n = ReadSoFar (length pages₀) file 
 abbrev μ-loop : tie.MeasureT-loop
 μ-loop file pages₀ at₀ n₀ pages at n = length file - at
 
--- src/reading.rt:31:5
 loop-holds : tie.Need-loop-holds Inv-loop μ-loop
 loop-holds c = read-nothing _ _
 
--- src/reading.rt:32:13
-trace-requires : tie.Need-trace-requires Inv-loop μ-loop
-trace-requires c κs = search needs
-
--- src/reading.rt:34:36
-enum-known-record : tie.Need-enum-known-record Inv-loop μ-loop
-enum-known-record c = search needs
-
--- src/reading.rt:36:21
-same-length : tie.Need-same-length Inv-loop μ-loop
-same-length c = search needs
-
--- src/reading.rt:36:21
 returns : tie.Need-returns Inv-loop μ-loop
-returns c = reads-too-many _ _ _ _ _ (c .before .before .before .before .before .loop .inv) _ _ (sym (ap traceAnswer (c .before .before .«record» .given .1)) ∙ c .before .before .before .before .trace .ensures) (c .if1 .taken)
+returns c =
+    let inv = c .before .before .before .before .before .loop .inv in
+    let trace = c .before .before .before .before .trace in
+    let record′ = c .before .before .«record» in
+    reads-too-many _ _ _ _ _ inv _ _ (sym (ap traceAnswer (record′ .given .1)) ∙ trace .ensures) (c .if1 .taken)
 
--- src/reading.rt:41:17
-mul-pages : tie.Need-mul-pages Inv-loop μ-loop
-mul-pages c = search needs
-
--- src/reading.rt:41:17
-slice-write-pages : tie.Need-slice-write-pages Inv-loop μ-loop
-slice-write-pages c = search needs
-
--- src/reading.rt:42:17
-add-n : tie.Need-add-n Inv-loop μ-loop
-add-n c = search needs
-
--- src/reading.rt:31:5
 loop-less : tie.Need-loop-less Inv-loop μ-loop
-loop-less c = reads-less _ _ _ _ _ (c .before .before .before .before .before .loop .inv) _ _ (sym (ap traceAnswer (c .before .before .«record» .given .1)) ∙ c .before .before .before .before .trace .ensures)
+loop-less c =
+    let inv = c .before .before .before .before .before .loop .inv in
+    let trace = c .before .before .before .before .trace in
+    let record′ = c .before .before .«record» in
+    reads-less _ _ _ _ _ inv _ _ (sym (ap traceAnswer (record′ .given .1)) ∙ trace .ensures)
 
--- src/reading.rt:31:5
 loop-again : tie.Need-loop-again Inv-loop μ-loop
-loop-again c = reads-on _ _ _ _ _ (c .before .before .before .before .before .loop .inv) _ _ (sym (ap traceAnswer (c .before .before .«record» .given .1)) ∙ c .before .before .before .before .trace .ensures) (c .if1 .left)
+loop-again c =
+    let inv = c .before .before .before .before .before .loop .inv in
+    let trace = c .before .before .before .before .trace in
+    let record′ = c .before .before .«record» in
+    reads-on _ _ _ _ _ inv _ _ (sym (ap traceAnswer (record′ .given .1)) ∙ trace .ensures) (c .if1 .left)
 
--- src/reading.rt:46:17
-enum-told : tie.Need-enum-told Inv-loop μ-loop
-enum-told c = search needs
-
--- src/reading.rt:46:17
-same-length-2 : tie.Need-same-length-2 Inv-loop μ-loop
-same-length-2 c = search needs
-
--- src/reading.rt:46:17
 returns-2 : tie.Need-returns-2 Inv-loop μ-loop
-returns-2 c = reads-end _ _ _ _ _ (c .before .before .before .loop .inv) (sym (ap traceAnswer (c .enum-told .given .1)) ∙ c .before .before .trace .ensures)
+returns-2 c =
+    let inv = c .before .before .before .loop .inv in
+    let trace = c .before .before .trace in
+    reads-end _ _ _ _ _ inv (sym (ap traceAnswer (c .enum-told .given .1)) ∙ trace .ensures)
 
--- src/reading.rt:51:34
-enum-known-record-2 : tie.Need-enum-known-record-2 Inv-loop μ-loop
-enum-known-record-2 c = search needs
-
--- src/reading.rt:52:17
-same-length-3 : tie.Need-same-length-3 Inv-loop μ-loop
-same-length-3 c = search needs
-
--- src/reading.rt:52:17
 returns-3 : tie.Need-returns-3 Inv-loop μ-loop
-returns-3 c = reads-damage _ _ _ _ _ (c .before .before .before .before .loop .inv) _ (sym (ap traceAnswer (c .before .record2 .given .1)) ∙ c .before .before .before .trace .ensures)
+returns-3 c =
+    let inv = c .before .before .before .before .loop .inv in
+    let trace = c .before .before .before .trace in
+    reads-damage _ _ _ _ _ inv _ (sym (ap traceAnswer (c .before .record2 .given .1)) ∙ trace .ensures)
 
--- src/reading.rt:62:17
-enum-told-2 : tie.Need-enum-told-2 Inv-loop μ-loop
-enum-told-2 c = search needs
-
--- src/reading.rt:62:17
-same-length-4 : tie.Need-same-length-4 Inv-loop μ-loop
-same-length-4 c = search needs
-
--- src/reading.rt:62:17
 returns-4 : tie.Need-returns-4 Inv-loop μ-loop
-returns-4 c = absurd (reads-no-sizes _ _ _ _ _ (c .before .before .before .loop .inv) _ _ _ (sym (ap traceAnswer (c .enum-told2 .given .1)) ∙ c .before .before .trace .ensures))
+returns-4 c =
+    let inv = c .before .before .before .loop .inv in
+    let trace = c .before .before .trace in
+    absurd (reads-no-sizes _ _ _ _ _ inv _ _ _ (sym (ap traceAnswer (c .enum-told2 .given .1)) ∙ trace .ensures))
 
 pub requests-spec : {M : Type 1} → statement M
 requests-spec =
@@ -96,21 +62,21 @@ requests-spec =
     Inv-loop
     μ-loop
     loop-holds
-    trace-requires
-    enum-known-record
-    same-length
+    (λ c κs. search needs)
+    (λ c. search needs)
+    (λ c. search needs)
     returns
-    mul-pages
-    slice-write-pages
-    add-n
+    (λ c. search needs)
+    (λ c. search needs)
+    (λ c. search needs)
     loop-less
     loop-again
-    enum-told
-    same-length-2
+    (λ c. search needs)
+    (λ c. search needs)
     returns-2
-    enum-known-record-2
-    same-length-3
+    (λ c. search needs)
+    (λ c. search needs)
     returns-3
-    enum-told-2
-    same-length-4
+    (λ c. search needs)
+    (λ c. search needs)
     returns-4)

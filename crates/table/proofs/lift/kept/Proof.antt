@@ -22,20 +22,36 @@ abbrev μ-loop : tie.MeasureT-loop
 
 add-n : tie.Need-add-n Inv-loop μ-loop
 add-n c =
-    let s = c .before .before .before .before .before .before in
-    let at = c .before .before .before .before .loop in
-    let one = byte-one (not (eqb (getD (s .args .pages .now) (at .i) 0) (s .args .change .page)) && ltb (boolByte (ltb (s .args .change .i) 2)) (getD (s .args .numbers .now) (at .i) 0)) in
+    let start = c .before .before .before .before .before .before in
+    let change = start .args .change in
+    let numbers = start .args .numbers .now in
+    let pages = start .args .pages .now in
+    let loop = c .before .before .before .before .loop in
+    let at = loop in
+    let one = byte-one (not (eqb (getD pages (at .i) 0) (change .page)) && ltb (boolByte (ltb (change .i) 2)) (getD numbers (at .i) 0)) in
     omega arith
 
 loop-again : tie.Need-loop-again Inv-loop μ-loop
 loop-again c =
-    let s = c .before .before .before .before .before .before in
-    let at = c .before .before .before .before .loop in
-    let one = byte-one (not (eqb (getD (s .args .pages .now) (at .i) 0) (s .args .change .page)) && ltb (boolByte (ltb (s .args .change .i) 2)) (getD (s .args .numbers .now) (at .i) 0)) in
-    (omega arith, omega arith, stays-more (s .args .change) (s .args .numbers .now) (s .args .pages .now) (at .i) (at .n) (s .pre .0) (s .pre .1) (c .before .before .before .loop-test .taken) (at .inv .2))
+    let start = c .before .before .before .before .before .before in
+    let change = start .args .change in
+    let numbers = start .args .numbers .now in
+    let pages = start .args .pages .now in
+    let pre = start .pre in
+    let loop = c .before .before .before .before .loop in
+    let loop-test = c .before .before .before .loop-test in
+    let at = loop in
+    let one = byte-one (not (eqb (getD pages (at .i) 0) (change .page)) && ltb (boolByte (ltb (change .i) 2)) (getD numbers (at .i) 0)) in
+    (omega arith, omega arith, stays-more change numbers pages (at .i) (at .n) (pre .0) (pre .1) (loop-test .taken) (at .inv .2))
 
 returns : tie.Need-returns Inv-loop μ-loop
-returns c = kept-end (c .before .before .before .args .change) (c .before .before .before .args .numbers .now) (c .before .before .before .args .pages .now) (c .before .loop .i) _ (c .before .before .before .pre .0) (c .loop-test .left) (c .before .loop .inv .2)
+returns c =
+    let start = c .before .before .before in
+    let change = start .args .change in
+    let numbers = start .args .numbers .now in
+    let pages = start .args .pages .now in
+    let pre = start .pre in
+    kept-end change numbers pages (c .before .loop .i) _ (pre .0) (c .loop-test .left) (c .before .loop .inv .2)
 
 pub kept-spec : {M : Type 1} → statement M
 kept-spec =
