@@ -1,10 +1,10 @@
 -- A list of calls to the layers, from the empty record and an unused table: the record and the table stand for the list's trace.
 use Prim.Native.Nat.{ℕ, _≤_}
-use mathlib.Core.Bool.{Bool, true, false}
 use mathlib.Core.List.{List, [], _∷_, _++_, append-assoc, append-nil}
-use mathlib.Core.Path.{_≡_, refl, sym, _∙_}
+use mathlib.Core.Path.{sym, _∙_}
 use borrow.Author.Tests.{eqb-true, eqb-false}
 use Rattle.lists.specs.Choice.{pick}
+use Rattle.lists.proofs.Choice.{by-test}
 use Rattle.layers.specs.Calls.{requestReply, pagesNext, numbersNext}
 use Rattle.layers.proofs.Steps.{Stands, start-stands, request-stands, refusal-keeps, reply-refusal}
 use Rattle.demands.specs.LayersCalls.{LayersCall, request, askRevealed, askPossible, LayersState, layersStart, requestAccepted, layersNext, layersAfterCalls, acceptedPage, layersTrace}
@@ -12,11 +12,6 @@ use Rattle.demands.specs.LayersCalls.{LayersCall, request, askRevealed, 
 -- the state stands for a trace
 abbrev pub StandsFor : (k a : ℕ) → (trace : List ℕ) → LayersState → Type 0
 StandsFor k a trace x = Stands k a trace (x .run) (x .pages) (x .numbers)
-
--- by cases on a test that a type mentions
-by-test : (P : Bool → Type 0) (b : Bool) → (b ≡ true → P true) → (b ≡ false → P false) → P b
-by-test P true f g = f refl
-by-test P false f g = g refl
 
 module _ (k a : ℕ) where
   -- after a call: for the same trace if it was refused or a question, for the trace with the page behind it if it was an accepted request

@@ -9,10 +9,10 @@ use lib.ListN.{length, replicate}
 use borrow.Author.Tests.{ltb-false, leb-false, lt-ltb, le-leb, eq-eqb}
 use Rattle.lists.specs.Choice.{_and_, _or_}
 use Rattle.lists.specs.Pages.{count, distinct}
-use Rattle.lists.specs.Sorting.{Row, rowBefore}
+use Rattle.lists.specs.Sorting.{Row, rowBefore, Sorted}
 use Rattle.lists.proofs.Choice.{tests, cases, and-i, or-l, or-r, bit-true, bit-false, eqb-self, eqb-sym}
 use Rattle.lists.proofs.Pages.{count-append, count-ext, once-distinct}
-use Rattle.lists.proofs.Sorting.{Sorted, row-tie}
+use Rattle.lists.proofs.Sorting.{row-tie}
 use Rattle.paging.specs.Rows.{pagesOf, unused, usedRows, tableOf}
 use Rattle.paging.specs.Table.{aboveZero, sizeOf}
 use Rattle.paging.proofs.Forming.{FormedRows, used-table}

@@ -8,10 +8,10 @@ use lib.Dec.{eqb, ltb}
 use lib.ListN.{length, drop}
 use borrow.Author.Tests.{eqb-true}
 use Rattle.lists.specs.Pages.{count, filter}
-use Rattle.lists.specs.Sorting.{Row, rowBefore}
+use Rattle.lists.specs.Sorting.{Row, rowBefore, Least, Sorted}
 use Rattle.lists.proofs.Choice.{tests, cases, split, and-l, and-r, or-split, bit-true, bit-false}
 use Rattle.lists.proofs.Pages.{count-not}
-use Rattle.lists.proofs.Sorting.{Least, Sorted, least-onward, row-split, row-not-before, row-order}
+use Rattle.lists.proofs.Sorting.{least-onward, row-split, row-not-before, row-order}
 use Rattle.paging.specs.Rows.{usedRows}
 use Rattle.paging.specs.Table.{aboveZero, sizeOf, revealed}
 use Rattle.layers.specs.Formed.{isUnused, follows, ordered, orderedBehind, noneAbove}

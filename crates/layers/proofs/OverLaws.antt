@@ -10,11 +10,11 @@ use borrow.Author.Tests.{ne-eqb, eqb-true, eqb-false, ltb-false, not-false}
 use Rattle.lists.specs.Choice.{pick}
 use Rattle.lists.specs.Sorting.{Row}
 use Rattle.lists.proofs.Choice.{cases, and-l, and-r}
-use Rattle.paging.specs.Refusals.{refuse, sizesRefusal}
+use Rattle.paging.specs.Refusals.{refuse, sizesRefusal, SizesRight}
 use Rattle.paging.specs.Rows.{rowsOf, numbersOf, pagesOf, unused, usedRows, tableOf}
 use Rattle.paging.specs.Table.{revealed, nothingYet, tabledAfter}
 use Rattle.paging.proofs.Forming.{used-table}
-use Rattle.paging.proofs.Refusals.{SizesRight, sizes-right, sizes-pass, sizes-fall}
+use Rattle.paging.proofs.Refusals.{sizes-right, sizes-pass, sizes-fall}
 use Rattle.paging.proofs.Rows.{numbers-back, pages-back}
 use Rattle.table.specs.Serving.{Sound}
 use Rattle.layers.specs.Formed.{isUnused}

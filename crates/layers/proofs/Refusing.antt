@@ -12,10 +12,10 @@ use Rattle.lists.specs.Pages.{bit}
 use Rattle.lists.specs.Sorting.{Row}
 use Rattle.lists.proofs.Choice.{cases, clash}
 use Rattle.paging.specs.Layers.{isJoin, topAfter}
-use Rattle.paging.specs.Refusals.{sizesRefusal}
+use Rattle.paging.specs.Refusals.{sizesRefusal, SizesRight}
 use Rattle.paging.specs.Rows.{rowsOf, numbersOf, pagesOf, usedRows, tableOf}
 use Rattle.paging.specs.Table.{ruleIn}
-use Rattle.paging.proofs.Refusals.{zero-pass, sizes-pass, sizes-fall, sizes-zero, SizesRight, sizes-right, sizes-taken}
+use Rattle.paging.proofs.Refusals.{zero-pass, sizes-pass, sizes-fall, sizes-zero, sizes-right, sizes-taken}
 use Rattle.paging.proofs.Rows.{numbers-back, pages-back}
 use Rattle.table.specs.Serving.{Sound, SteppedTo, ruleOf}
 use Rattle.table.specs.declared.Stepped.{Stepped}

@@ -17,6 +17,11 @@ pub cases {ℓ} : {A : Type ℓ} (b : Bool) → (b ≡ true → A) → (b ≡ fa
 cases true f g = f refl
 cases false f g = g refl
 
+-- the same where the type mentions the test
+pub by-test : (P : Bool → Type 0) (b : Bool) → (b ≡ true → P true) → (b ≡ false → P false) → P b
+by-test P true f g = f refl
+by-test P false f g = g refl
+
 pub split {ℓ} : {A B : Type 0} {C : Type ℓ} → A ⊎ B → (A → C) → (B → C) → C
 split (inl x) f g = f x
 split (inr y) f g = g y

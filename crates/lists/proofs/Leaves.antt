@@ -1,5 +1,5 @@
--- Laws behind the operations on lent lists: the first place of a page, a list that grows at its end, marks.
-use Prim.Native.Nat.{ℕ, zero, suc, _+_, _-_, _≤_, _<_, min}
+-- Laws behind the operations on lent lists: the first place of a page, a list that grows at its end, writing along a list.
+use Prim.Native.Nat.{ℕ, suc, _+_, _-_, _≤_, _<_, min}
 use native.Mathlib.Nat.{add-zero}
 use native.Mathlib.Numerals.{add-one}
 use native.Mathlib.Omega.{arith}
@@ -12,9 +12,9 @@ use lib.Seq.{drop-drop, drop-cons, take-suc, take-all, length-take-le, set-at, t
 use mir.Val.{boolByte}
 use borrow.Author.Tests.{eq-eqb, ne-eqb, eqb-true, lt-ltb, not-true}
 use Rattle.lists.specs.Choice.{_and_, _or_}
-use Rattle.lists.specs.Pages.{mem, distinct, toEnd, erase, eraseAll}
-use Rattle.lists.specs.Places.{place, movedToEnd, firstDropped, pasted}
-use Rattle.lists.proofs.Choice.{cases, split, clash, and-l, and-r, and-false-r, or-split, eqb-self, eqb-sym}
+use Rattle.lists.specs.Pages.{mem, distinct, toEnd}
+use Rattle.lists.specs.Places.{place, movedToEnd, firstDropped, pasted, over}
+use Rattle.lists.proofs.Choice.{cases, split, clash, and-l, and-r, and-false-r, or-split, eqb-sym}
 use Rattle.lists.proofs.Pages.{without-absent}
 
 -- The first place of a page
@@ -28,10 +28,6 @@ place-next p i xs h e =
 
 pub place-end : (p i : ℕ) (xs : List ℕ) → length xs ≤ i → i + place p (drop i xs) ≡ i
 place-end p i xs h = rw (drop-of-length-le xs h) (add-zero i)
-
-pub place-most : (p : ℕ) (xs : List ℕ) → place p xs ≤ length xs
-place-most p [] = omega arith
-place-most p (x ∷ xs) = cases (eqb p x) (λ e. rw e (omega arith)) (λ e. rw e (omega (arith, place-most p xs)))
 
 -- a page is in the list exactly if its place is below the length
 pub mem-place : (p : ℕ) (xs : List ℕ) → mem p xs ≡ ltb (place p xs) (length xs)
@@ -110,10 +106,6 @@ twice-at pages i h m =
 
 -- Writing along a list
 
--- the list d with its first i entries those of s
-pub over : (s d : List ℕ) → ℕ → List ℕ
-over s d i = take i s ++ drop i d
-
 pub over-none : (s d : List ℕ) → d ≡ over s d 0
 unfolding over
 over-none s d = refl
@@ -126,7 +118,7 @@ over-all : (s d : List ℕ) (i : ℕ) → length s ≤ i → length d ≤ i → 
 unfolding over
 over-all s d i hs hd = rw (take-all i s hs, drop-of-length-le d hd) (append-nil s)
 
-over-turn : (s d : List ℕ) (i : ℕ) → i < length s → i < length d → set (over s d i) i (getD s i 0) ≡ over s d (i + 1)
+pub over-turn : (s d : List ℕ) (i : ℕ) → i < length s → i < length d → set (over s d i) i (getD s i 0) ≡ over s d (i + 1)
 unfolding over
 over-turn s d i hs hd =
     rw (drop-cons d i 0 hd, set-at (take i s) (getD d i 0) (drop (suc i) d) (getD s i 0) i (length-take-le i s (omega arith)), add-one i)
@@ -271,11 +263,3 @@ moved-toEnd p (x ∷ xs) d m =
   where
     or-right : (a b : Bool) → a ≡ false → a or b ≡ true → b ≡ true
     or-right a b e m = split (or-split a b m) (λ t. clash a t e) (λ t. t)
-
--- the first pages taken out one by one are the first pages dropped
-pub erase-first : (n : ℕ) (xs : List ℕ) → eraseAll (take n xs) xs ≡ drop n xs
-erase-first zero xs = refl
-erase-first (suc n) [] = refl
-erase-first (suc n) (x ∷ xs) =
-    let e : erase x (x ∷ xs) ≡ xs = rw (eqb-self x) refl in
-    ap (λ (l : List ℕ). eraseAll (take n xs) l) e ∙ erase-first n xs

@@ -2,3 +2,4 @@ pub mod Choice
 pub mod Pages
 pub mod Leaves
 pub mod Sorting
+pub mod Parts

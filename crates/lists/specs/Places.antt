@@ -18,6 +18,10 @@ movedToEnd at xs = (take at xs ++ drop (suc at) xs) ++ take 1 (drop at xs)
 abbrev pub firstDropped : (n : ℕ) → List ℕ → List ℕ
 firstDropped n xs = drop n xs ++ replicate (min n (length xs)) 0
 
+-- the second list with its first i entries those of the first
+unfoldable pub over : (from to : List ℕ) → (i : ℕ) → List ℕ
+over from to i = take i from ++ drop i to
+
 -- as many pages of the first list as there is room for, over the front of the second
 abbrev pub pasted : (from to : List ℕ) → List ℕ
 pasted from to = take (length to) from ++ drop (length from) to

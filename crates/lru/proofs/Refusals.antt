@@ -1,39 +1,24 @@
 -- The refusals: each test of the code is a condition of the list, and where none holds the state is ready.
 use Prim.Native.Nat.{ℕ, _≤_, _<_}
 use native.Mathlib.Omega.{arith}
-use mathlib.Core.Bool.{Bool, true, false, not}
+use mathlib.Core.Bool.{true, false, not}
 use mathlib.Core.List.{List}
 use mathlib.Core.Path.{_≡_, refl, sym, _∙_}
 use lib.Dec.{eqb, ltb}
 use lib.ListN.{length, take}
-use borrow.Author.Tests.{eq-eqb, ne-eqb, eqb-false, lt-ltb, le-ltb, ltb-false, le-leb, lt-leb, not-false}
+use borrow.Author.Tests.{eq-eqb, ne-eqb, eqb-false, lt-ltb, le-ltb, le-leb, lt-leb, not-false}
 use Rattle.lists.specs.Choice.{_or_}
 use Rattle.lists.specs.Pages.{distinct}
 use Rattle.lists.proofs.Choice.{tests, and-l, and-r, and-i, and-false-l, and-false-r, or-none-l, or-none-r}
-use Rattle.paging.specs.Refusals.{refuse, sizesRefusal}
-use Rattle.paging.proofs.Refusals.{SizesRight, sizes-pass, sizes-fall, sizes-zero, sizes-right, sizes-taken}
+use Rattle.paging.specs.Refusals.{refuse, sizesRefusal, traceRefusal}
+use Rattle.paging.proofs.Refusals.{zero-pass, sizes-pass, sizes-fall, sizes-rest, trace-right}
 use Rattle.lru.specs.Ready.{Ready, TraceReady}
-use Rattle.lru.specs.Refusing.{wellFormed, requestRefusal, replyOf, cacheOf, evictedOf, traceRefusal, totalsOf}
+use Rattle.lru.specs.Refusing.{wellFormed, requestRefusal, replyOf, cacheOf, evictedOf, totalsOf}
 use Rattle.lru.specs.Serving.{emptyRun}
 use Rattle.lru.specs.Standing.{runOver}
 use Rattle.lru.specs.declared.Reply.{Reply}
 use Rattle.lru.specs.declared.Run.{Run}
 use Rattle.lru.proofs.Served.{Served}
-
--- a condition that does not hold, where its number is not 0
-pub passed : (test : Bool) (number rest : ℕ) → 1 ≤ number → refuse test number rest ≡ 0 → (test ≡ false) × (rest ≡ 0)
-passed true number rest h e = absurd (omega arith)
-passed false number rest h e = (refl, e)
-
-module _ (k a : ℕ) where
-  pub sizes-some : (rest : ℕ) → (sizesRefusal k a 0 ≡ 0 → ⊥) → sizesRefusal k a 0 ≡ sizesRefusal k a rest
-  sizes-some rest n = sym (sizes-fall k a rest (sizesRefusal k a 0) refl n)
-
-  pub sizes-rest : (rest : ℕ) → sizesRefusal k a rest ≡ 0 → (SizesRight k a) × (rest ≡ 0)
-  sizes-rest rest e = let z = sizes-zero k a rest e in (sizes-right k a z, sym (sizes-pass k a rest z) ∙ e)
-
-  pub sizes-sized : (rest : ℕ) → SizesRight k a → sizesRefusal k a rest ≡ rest
-  sizes-sized rest s = sizes-pass k a rest (sizes-taken k a s)
 
 module _ (run : Run) (count : ℕ) (cache evicted : List ℕ) where
   -- no refusal
@@ -42,9 +27,9 @@ module _ (run : Run) (count : ℕ) (cache evicted : List ℕ) where
   ready-of e =
       let sizes = sizes-rest (run .k) (run .a) _ e in
       let sized = sizes .0 in
-      let eight = passed (ltb (length cache) (run .k) or ltb (length evicted) (run .a)) 8 _ (omega arith) (sizes .1) in
-      let nine = passed (not (wellFormed run count cache)) 9 _ (omega arith) (eight .1) in
-      let twelve = passed (eqb (run .requests) 4294967295) 12 0 (omega arith) (nine .1) in
+      let eight = zero-pass (ltb (length cache) (run .k) or ltb (length evicted) (run .a)) 8 _ (λ z. omega arith) (sizes .1) in
+      let nine = zero-pass (not (wellFormed run count cache)) 9 _ (λ z. omega arith) (eight .1) in
+      let twelve = zero-pass (eqb (run .requests) 4294967295) 12 0 (λ z. omega arith) (nine .1) in
       let well : wellFormed run count cache ≡ true = not-false _ (nine .0) in
       let c = or-none-l _ _ (eight .0) in
       let v = or-none-r _ _ (eight .0) in
@@ -69,7 +54,7 @@ module _ (run : Run) (count : ℕ) (cache evicted : List ℕ) where
 
   pub number-sizes : (n : ℕ) → n ≡ sizesRefusal (run .k) (run .a) 0 → (n ≡ 0 → ⊥) → n ≡ requestRefusal run count cache evicted
   unfolding requestRefusal
-  number-sizes n e z = e ∙ sizes-some (run .k) (run .a) _ (λ q. z (e ∙ q))
+  number-sizes n e z = sym (sizes-fall (run .k) (run .a) _ n e z)
 
   module _ (n : ℕ) (sz : n ≡ sizesRefusal (run .k) (run .a) 0) (z : n ≡ 0) where
     pub number-cache : length cache < run .k → 8 ≡ requestRefusal run count cache evicted
@@ -140,34 +125,20 @@ module _ (run : Run) (count : ℕ) (cache evicted : List ℕ) (page : ℕ) where
 -- A whole trace
 
 module _ (k a : ℕ) (trace : List ℕ) where
-  pub trace-sizes : (n : ℕ) → n ≡ sizesRefusal k a 0 → (n ≡ 0 → ⊥) → n ≡ traceRefusal k a trace
-  unfolding traceRefusal
-  trace-sizes n e z = e ∙ sizes-some k a _ (λ q. z (e ∙ q))
-
-  pub trace-long : (n : ℕ) → n ≡ sizesRefusal k a 0 → n ≡ 0 → 65536 < length trace → 3 ≡ traceRefusal k a trace
-  unfolding traceRefusal
-  trace-long n e z h = sym (sizes-pass k a _ (sym e ∙ z) ∙ rw (lt-ltb _ _ h) refl)
-
-  pub trace-none : (n : ℕ) → n ≡ sizesRefusal k a 0 → n ≡ 0 → length trace ≤ 65536 → 0 ≡ traceRefusal k a trace
-  unfolding traceRefusal
-  trace-none n e z h = sym (sizes-pass k a _ (sym e ∙ z) ∙ rw (le-ltb _ _ h) refl)
-
-  pub trace-ready : traceRefusal k a trace ≡ 0 → TraceReady k a trace
-  unfolding traceRefusal
+  pub trace-ready : traceRefusal k a trace 0 ≡ 0 → TraceReady k a trace
   trace-ready e =
-      let sizes = sizes-rest k a _ e in
-      let three = passed (ltb 65536 (length trace)) 3 0 (omega arith) (sizes .1) in
+      let right = trace-right k a trace 0 e in
       record {
-        a-least = sizes .0 .a-low;
-        a-most = sizes .0 .a-high;
-        k-most = sizes .0 .k-high;
-        trace-most = ltb-false _ _ (three .0);
+        a-least = right .0 .a-low;
+        a-most = right .0 .a-high;
+        k-most = right .0 .k-high;
+        trace-most = right .1;
       }
 
-  pub totals-refused : (n : ℕ) → n ≡ traceRefusal k a trace → (n ≡ 0 → ⊥)
+  pub totals-refused : (n : ℕ) → n ≡ traceRefusal k a trace 0 → (n ≡ 0 → ⊥)
       → record { refusal = n; bundles = 0; loads = 0 } ≡ totalsOf k a trace
   totals-refused n e z = rw (← e, ne-eqb n 0 z) refl
 
-  pub totals-served : (run : Run) → traceRefusal k a trace ≡ 0 → run ≡ runOver k a trace
+  pub totals-served : (run : Run) → traceRefusal k a trace 0 ≡ 0 → run ≡ runOver k a trace
       → record { refusal = 0; bundles = run .evictions; loads = run .loads } ≡ totalsOf k a trace
   totals-served run z e = rw (z, e) refl

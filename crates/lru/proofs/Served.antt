@@ -11,7 +11,8 @@ use borrow.Author.Tests.{lt-ltb, le-ltb, ltb-true, ltb-false}
 use Rattle.lists.specs.Pages.{mem, toEnd}
 use Rattle.lists.specs.Places.{place, movedToEnd}
 use Rattle.lists.proofs.Choice.{cases}
-use Rattle.lists.proofs.Leaves.{mem-place, length-moved, moved-toEnd, erase-first}
+use Rattle.lists.proofs.Leaves.{mem-place, length-moved, moved-toEnd}
+use Rattle.lists.proofs.Pages.{eraseAll-take}
 use Rattle.lru.specs.Cases.{foundIn}
 use Rattle.lru.specs.Ready.{Ready}
 use Rattle.lru.specs.Serving.{laid, loaded, bundleOver, countedRun, cacheServed, evictedServed, replyServed}
@@ -99,9 +100,9 @@ module _ (run : Run) (count : ℕ) (cache evicted : List ℕ) (page : ℕ) (read
       let held = take count cache in
       let t = full-told (run .k) page held f in
       let n : length (drop (run .a) held ++ (page ∷ [])) ≡ count - run .a + 1 = simp (length-append, length-drop, length-held) refl in (
-        rw (t .0, le-ltb _ _ (t .1), q, erase-first (run .a) held, n) refl,
+        rw (t .0, le-ltb _ _ (t .1), q, eraseAll-take (run .a) held, n) refl,
         (
-          rw (t .0, le-ltb _ _ (t .1), e, erase-first (run .a) held) refl,
+          rw (t .0, le-ltb _ _ (t .1), e, eraseAll-take (run .a) held) refl,
           rw (t .0, le-ltb _ _ (t .1), w) refl,
         ),
       )

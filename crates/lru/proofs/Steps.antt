@@ -13,22 +13,21 @@ use lib.Seq.{take-at, take-suc, take-all}
 use borrow.Author.Tests.{eq-eqb, eqb-true, ltb-true, ltb-false, ne-eqb, le-ltb, leb-true}
 use Rattle.lists.specs.Choice.{pick, _or_}
 use Rattle.lists.specs.Pages.{mem, toEnd, eraseAll, distinct, count, bit}
-use Rattle.lists.proofs.Choice.{cases, clash, and-l, and-r, or-none}
-use Rattle.lists.proofs.Leaves.{erase-first}
-use Rattle.lists.proofs.Pages.{count-append, Once, distinct-once, once-distinct, once-snoc, once-toEnd, once-eraseAll, mem-eraseAll, toEnd-same, length-same}
+use Rattle.lists.proofs.Choice.{cases, clash, and-l, and-r, or-none, by-test}
+use Rattle.lists.proofs.Pages.{count-append, Once, distinct-once, once-distinct, once-snoc, once-toEnd, once-eraseAll, mem-eraseAll, toEnd-same, length-same, eraseAll-take}
 use Rattle.paging.specs.Lru.{lruRule}
 use Rattle.paging.specs.Policy.{Kind, hit, load, bundled, kindOf, isLoad, isBundled, serve, holds, kinds}
-use Rattle.paging.specs.Refusals.{refuse}
-use Rattle.paging.proofs.Refusals.{SizesRight}
+use Rattle.paging.specs.Refusals.{refuse, traceRefusal, SizesRight}
+use Rattle.paging.proofs.Refusals.{sizes-taken}
 use Rattle.paging.proofs.Runs.{holds-append, kinds-append, lru-holds-any, lru-kinds-any}
 use Rattle.lru.specs.Ready.{Ready, TraceReady}
-use Rattle.lru.specs.Refusing.{requestRefusal, replyOf, cacheOf, traceRefusal, totalsOf}
+use Rattle.lru.specs.Refusing.{requestRefusal, replyOf, cacheOf, totalsOf}
 use Rattle.lru.specs.Serving.{emptyRun, heldAfter, kindIn, runServed, cacheServed, replyServed}
 use Rattle.lru.specs.Standing.{runOver, Stands, Call, State, emptyState, accepts, afterCall, called, afterCalls, acceptedPages, pagesOf, roomy}
 use Rattle.lru.specs.declared.Reply.{Reply}
 use Rattle.lru.specs.declared.Run.{Run}
 use Rattle.lru.proofs.Laying.{length-laid}
-use Rattle.lru.proofs.Refusals.{sizes-sized, ready-of, well, trace-ready, totals-served}
+use Rattle.lru.proofs.Refusals.{ready-of, well, trace-ready, totals-served}
 
 -- Serving keeps the pages held well formed
 
@@ -50,7 +49,7 @@ module _ (k a p : ℕ) (held : List ℕ) (d : distinct held ≡ true) (l : lengt
       (λ m. rw m (let s = length-same (toEnd p held) held (toEnd-same p held m (o p)) in omega arith))
       (λ m. rw m (cases (ltb (length held) k)
       (λ t. rw t (let b : length held < k = ltb-true _ _ t in simp length-append (omega arith)))
-      (λ t. rw (t, erase-first a held) (let b : k ≤ length held = ltb-false _ _ t in simp (length-append, length-drop) (omega arith)))))
+      (λ t. rw (t, eraseAll-take a held) (let b : k ≤ length held = ltb-false _ _ t in simp (length-append, length-drop) (omega arith)))))
 
 -- a bundle comes with a load, and a request with at most one
 bundle-loads : (kind : Kind) → bit (isBundled kind) ≤ bit (isLoad kind)
@@ -117,7 +116,7 @@ module _ {k a : ℕ} {trace : List ℕ} {run : Run} {count : ℕ} {cache : List 
       let w = well run count cache evicted (rw k-is (s .count-most)) (s .evictions-most) (s .loads-most) (s .once) in
       let z : SizesRight (run .k) (run .a) =
       rw (k-is, a-is) (record { a-low = s .a-least; a-high = s .a-most; k-high = s .k-most }) in
-      sizes-sized (run .k) (run .a) _ z ∙ rw (w, s .record-is) refl
+      sizes-taken (run .k) (run .a) z _ ∙ rw (w, s .record-is) refl
 
   -- An accepted request
 
@@ -199,11 +198,6 @@ stands-whole k a trace i run count cache s h = s .record-is ∙ ap (runOver k a)
 
 -- Lists of calls
 
--- by cases on a test that a type mentions
-by-test : (P : Bool → Type 0) (b : Bool) → (b ≡ true → P true) → (b ≡ false → P false) → P b
-by-test P true f g = f refl
-by-test P false f g = g refl
-
 -- the state after a call stands: for the same trace if it was refused, for the trace with the page behind it if it was accepted
 pub call-stands : (k a : ℕ) (call : Call) (trace : List ℕ) (S : State) → Stands k a trace (S .run) (S .count) (S .cache)
     → Stands k a (trace ++ pick (accepts call S) (call .page ∷ []) []) (called call S .run) (called call S .count) (called call S .cache)
@@ -252,7 +246,7 @@ calls-from-empty k a calls cache least most k-most =
     calls-stand k a calls [] (emptyState k a cache) (stands-empty k a cache least most k-most)
 
 -- LRU over a trace answers what the single calls give one after the other
-pub totals-of-calls : (k a : ℕ) (calls : List Call) (cache : List ℕ) → traceRefusal k a (pagesOf calls) ≡ 0 → k ≤ length cache → roomy a calls ≡ true
+pub totals-of-calls : (k a : ℕ) (calls : List Call) (cache : List ℕ) → traceRefusal k a (pagesOf calls) 0 ≡ 0 → k ≤ length cache → roomy a calls ≡ true
     → totalsOf k a (pagesOf calls)
     ≡ record {
       refusal = 0;

@@ -9,7 +9,7 @@ use Rattle.lists.specs.Choice.{pick, _and_, _or_}
 use Rattle.lists.specs.Pages.{distinct}
 use Rattle.paging.specs.Lru.{lruRule}
 use Rattle.paging.specs.Policy.{bundleCount, loadCount}
-use Rattle.paging.specs.Refusals.{refuse, sizesRefusal}
+use Rattle.paging.specs.Refusals.{fullCounter, refuse, sizesRefusal, traceRefusal}
 use Rattle.lru.specs.Serving.{emptyRun, cacheServed, evictedServed, replyServed}
 use Rattle.lru.specs.declared.Reply.{Reply}
 use Rattle.lru.specs.declared.Run.{Run}
@@ -28,7 +28,7 @@ requestRefusal run count cache evicted =
     sizesRefusal (run .k) (run .a)
     (refuse (ltb (length cache) (run .k) or ltb (length evicted) (run .a)) 8
     (refuse (not (wellFormed run count cache)) 9
-    (refuse (eqb (run .requests) 4294967295) 12 0)))
+    (refuse (eqb (run .requests) fullCounter) 12 0)))
 
 abbrev pub refused : (number : ℕ) → Reply
 refused number = record { refusal = number; run = emptyRun 0 0; count = 0; answer = 0 }
@@ -51,11 +51,8 @@ evictedOf run count cache evicted page =
 
 -- LRU over a whole trace, from the empty buffer
 
-unfoldable pub traceRefusal : (k a : ℕ) → (trace : List ℕ) → ℕ
-traceRefusal k a trace = sizesRefusal k a (refuse (ltb 65536 (length trace)) 3 0)
-
 abbrev pub totalsOf : (k a : ℕ) → (trace : List ℕ) → Totals
 totalsOf k a trace =
-    pick (eqb (traceRefusal k a trace) 0)
+    pick (eqb (traceRefusal k a trace 0) 0)
     (record { refusal = 0; bundles = bundleCount (lruRule a) k trace; loads = loadCount (lruRule a) k trace })
-    (record { refusal = traceRefusal k a trace; bundles = 0; loads = 0 })
+    (record { refusal = traceRefusal k a trace 0; bundles = 0; loads = 0 })

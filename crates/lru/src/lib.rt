@@ -1,10 +1,9 @@
 // Least recent use (document 01, "LRU"): the call that a tracker makes, one request at a time, on a run record by value and two
 // lent lists; and LRU over a whole trace.
 ghost use mathlib.Core.Path.{_≡_};
-ghost use Rattle.lru.specs.Refusing.{requestRefusal, replyOf, cacheOf, evictedOf, traceRefusal, totalsOf};
+ghost use Rattle.lru.specs.Refusing.{requestRefusal, replyOf, cacheOf, evictedOf, totalsOf};
 ghost use Rattle.lru.specs.Serving.{emptyRun};
 use paging::Sizes;
-use paging::Trace;
 
 mod serving;
 
@@ -108,7 +107,7 @@ pub struct Totals {
 pub fn over_trace(k: u32, a: u32, trace: &[u32]) -> Totals
     ensures { λ r. ⌜ r ≡ totalsOf k a (now (trace .entry)) ⌝ }
 {
-    let number = trace_refusal(k, a, trace);
+    let number = Sizes { k, a }.trace_refusal(trace);
     if number != 0 {
         return Totals {
             refusal: number,
@@ -122,17 +121,4 @@ pub fn over_trace(k: u32, a: u32, trace: &[u32]) -> Totals
         bundles: run.evictions,
         loads: run.loads,
     }
-}
-
-fn trace_refusal(k: u32, a: u32, trace: &[u32]) -> u32
-    ensures { λ r. ⌜ r ≡ traceRefusal k a (now (trace .entry)) ⌝ }
-{
-    let sizes = Sizes { k, a }.refusal();
-    if sizes != 0 {
-        return sizes;
-    }
-    if trace.len() > Trace::LONGEST {
-        return 3;
-    }
-    0
 }

@@ -1,7 +1,6 @@
 -- The schedule's bytes: the pages of a bundle, one EV in the rest of the bytes, and EVs one behind the other.
 use Prim.Native.Nat.{ℕ, suc, _+_, _*_, _-_, _≤_, _<_}
 use native.Mathlib.Nat.{mul-le-mul-left, mul-le-mul-right, zero-add}
-use native.Mathlib.Numerals.{add-one}
 use native.Mathlib.Omega.{arith}
 use mathlib.Core.Bool.{false}
 use mathlib.Core.List.{List, [], _++_, map, append-nil, append-assoc}
@@ -10,6 +9,8 @@ use mathlib.Core.Path.{_≡_, refl, sym, _∙_, ap}
 use lib.ListN.{length, take, drop, getD, set, length-append, length-take, length-drop, length-map, List·getD-map, take-append-drop, drop-of-length-le}
 use lib.Seq.{take-at, take-all, take-take, length-take-le, drop-drop, drop-length}
 use borrow.Author.Tests.{le-ltb, ne-eqb}
+use Rattle.lists.specs.Places.{over}
+use Rattle.lists.proofs.Leaves.{over-turn}
 use Rattle.paging.specs.Min.{bestCount}
 use Rattle.paging.specs.Policy.{Kind, hit, load, bundled, isBundled, kindNumber}
 use Rattle.paging.specs.Schedule.{Entry}
@@ -19,9 +20,8 @@ use Rattle.records.specs.Bytes.{kaBytes, evBytes, entryBytes, joined, evLength,
 use Rattle.records.specs.Writing.{putLength, putBytes, pagesRefused}
 use Rattle.records.proofs.Lengths.{length-evBytes}
 use Rattle.records.proofs.Writing.{pages-fine}
-use Rattle.keys.specs.Keys.{keyOf, pageOf, key, kindIn, serveKeys, bundleOf, bundlesOf, kindFrom, over, Room}
+use Rattle.keys.specs.Keys.{keyOf, pageOf, key, kindIn, serveKeys, bundleOf, bundlesOf, kindFrom, Room}
 use Rattle.keys.proofs.Order.{Pages}
-use Rattle.keys.proofs.Places.{over-turn}
 use Rattle.min.specs.Answers.{minSchedule}
 use Rattle.min.specs.Run.{Ready, Writing, EvRoom, BundleRoom}
 use Rattle.min.proofs.Model.{take-map, best-same, bundles-same, kept-none}
@@ -35,7 +35,7 @@ pub pages-turn : (i : ℕ) (held pages₀ pages : List ℕ) (page : ℕ) → i <
 pages-turn i held pages₀ pages page h g e f =
     let d : page ≡ getD (map pageOf held) i 0 = f ∙ sym (List·getD-map pageOf held i 0) in
     let n = length-map held pageOf in
-    rw (add-one i, e, d) (over-turn i (map pageOf held) pages₀ (omega arith) g)
+    rw (e, d) (over-turn (map pageOf held) pages₀ i (omega arith) g)
 
 pub pages-done : (i a : ℕ) (held pages₀ pages : List ℕ) → i ≡ a → a ≤ length held → pages ≡ over (map pageOf held) pages₀ i
     → take a pages ≡ map pageOf (take a held)

@@ -11,6 +11,7 @@ use lib.Seq.{drop-cons, drop-length, getD-set-same, getD-set-other, getD-take, e
 use borrow.Author.Tests.{eq-eqb, ne-eqb, eqb-true, eqb-false}
 use Rattle.lists.specs.Choice.{pick}
 use Rattle.lists.proofs.Choice.{tests, cases}
+use Rattle.lists.proofs.Parts.{zeros}
 use Rattle.next_use.specs.Chains.{pageAt, low, high, lastWith, toldOf, Chained, Walked, Filled}
 use Rattle.next_use.specs.Left.{left, leftsOf}
 
@@ -221,10 +222,5 @@ chain-turn i trace heads before n h k =
     })
 
 -- a table that is clear
-pub zeros : (n i : ℕ) → _≡_ {A = ℕ} (getD (replicate n 0) i 0) 0
-zeros zero i = refl
-zeros (suc n) zero = refl
-zeros (suc n) (suc i) = zeros n i
-
 pub cleared : (before after : List ℕ) → after ≡ replicate (length before) 0 → (i : ℕ) → getD after i 0 ≡ 0
 cleared before after e i = ap (λ (l : List ℕ). getD l i 0) e ∙ zeros (length before) i

@@ -11,10 +11,10 @@ use lib.ListN.{length, replicate}
 use borrow.Author.Tests.{eqb-true, ltb-true, ltb-false, lt-ltb, eq-eqb, ne-eqb, not-true}
 use Rattle.lists.specs.Choice.{_and_}
 use Rattle.lists.specs.Pages.{count, filter, bit}
-use Rattle.lists.specs.Sorting.{Row, rowBefore}
+use Rattle.lists.specs.Sorting.{Row, rowBefore, Least, Sorted}
 use Rattle.lists.proofs.Choice.{tests, cases, split, clash, and-l, and-r, and-i, and-false-l, and-false-r, not-i, bit-true, bit-false, bit-le}
 use Rattle.lists.proofs.Pages.{count-snoc, count-length, count-mono, count-cover, count-by}
-use Rattle.lists.proofs.Sorting.{Least, Sorted, sorted-sort, count-sort, row-order, row-split}
+use Rattle.lists.proofs.Sorting.{sorted-sort, count-sort, row-order, row-split}
 use Rattle.paging.specs.Layers.{LayerRule, append, join, lift, layerRule, renumbered, topAfter}
 use Rattle.paging.specs.Rows.{rowAt, unused, usedRows, tableOf}
 use Rattle.paging.specs.Table.{numberIn, renumberedRow, aboveZero, othersAfter, rowsBy, ruleIn, rowsAfter, sizeOf}

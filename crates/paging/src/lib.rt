@@ -1,7 +1,7 @@
-// The sizes of document 01 ("Sizes") and refusals 1 and 2, which every call that has a k and an a judges first.
+// The sizes of document 01 ("Sizes") with refusals 1 and 2, which every call that has a k and an a judges first, and 3.
 // The model itself, traces, LRU, MIN, layers and schedules, is in specs/.
 ghost use mathlib.Core.Path.{_≡_};
-ghost use Rattle.paging.specs.Refusals.{sizesRefusal};
+ghost use Rattle.paging.specs.Refusals.{sizesRefusal, traceRefusal};
 
 // The buffer's size k and the bundle's size a, as a call is handed them: any two numbers.
 pub struct Sizes {
@@ -30,6 +30,20 @@ impl Sizes {
         }
         if a > k {
             return 2;
+        }
+        0
+    }
+
+    // The same for a call over a lent trace: then 3 where it has too many requests.
+    pub fn trace_refusal(self, trace: &[u32]) -> u32
+        ensures { λ r. ⌜ r ≡ traceRefusal (self .k) (self .a) (now (trace .entry)) 0 ⌝ }
+    {
+        let no = self.refusal();
+        if no != 0 {
+            return no;
+        }
+        if trace.len() > Trace::LONGEST {
+            return 3;
         }
         0
     }

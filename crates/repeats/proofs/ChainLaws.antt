@@ -14,6 +14,7 @@ use Rattle.lists.specs.Choice.{_or_, _and_}
 use Rattle.lists.specs.Pages.{mem, distinct}
 use Rattle.lists.proofs.Choice.{cases, split, clash, or-split, eqb-self}
 use Rattle.lists.proofs.Leaves.{mem-append, distinct-snoc, twice-at}
+use Rattle.lists.proofs.Parts.{zeros}
 use Rattle.repeats.specs.Chains.{chainHas, inChain, Linked, Unlinked}
 use Rattle.repeats.specs.Slots.{slotOf}
 use Rattle.repeats.proofs.FreshLaws.{slot-le}
@@ -221,11 +222,6 @@ module _ (mask : ℕ) (pages heads before : List ℕ) (i at : ℕ) (h : i < leng
 
 pub threaded-all : (mask : ℕ) (pages heads before : List ℕ) (i : ℕ) → length pages ≤ i → Threaded mask pages heads before i → distinct pages ≡ true
 threaded-all mask pages heads before i h t = rw (take-all i pages h) at (t .once)
-
-zeros : (n c : ℕ) → _≡_ {A = ℕ} (getD (replicate n 0) c 0) 0
-zeros zero c = refl
-zeros (suc n) zero = refl
-zeros (suc n) (suc c) = zeros n c
 
 -- tables of zeros
 pub unlinked : (mask n m : ℕ) (pages : List ℕ) → mask < n → length pages ≤ m → length pages ≤ 65536

@@ -12,9 +12,9 @@ use Rattle.paging.specs.Layers.{LayerRule, append, join, lift, renumbered, topA
 use Rattle.paging.specs.Rows.{rowAt, tableOf}
 use Rattle.paging.specs.Table.{aboveZero, ruleIn, rowsAfter}
 use Rattle.table.specs.declared.Change.{Change}
-use Rattle.table.specs.declared.Stepped.{Stepped}
 use Rattle.table.specs.declared.RuleApplied.{RuleApplied}
 use Rattle.table.specs.declared.RuleApplied.the-variants.{Append, Join, Lift}
+use Rattle.table.specs.declared.Stepped.{Stepped}
 
 -- the rule of Figure 1 that each case of the code's enum stands for
 abbrev pub ruleOf : RuleApplied → LayerRule

@@ -4,7 +4,8 @@ use native.Mathlib.Omega.{arith}
 use mathlib.Core.Path.{_≡_}
 use lib.ListN.{length, replicate, length-set}
 use borrow.Author.Needs.{needs}
-use Rattle.lists.proofs.Leaves.{over, over-none, zero-turn, zero-done}
+use Rattle.lists.specs.Places.{over}
+use Rattle.lists.proofs.Leaves.{over-none, zero-turn, zero-done}
 use Rattle.lists.proofs.moves.fill_zero.Statement.{statement}
 use Rattle.lists.proofs.moves.fill_zero.Tie as tie
 

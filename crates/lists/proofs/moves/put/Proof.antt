@@ -4,7 +4,8 @@ use native.Mathlib.Omega.{arith}
 use mathlib.Core.Path.{_≡_, refl}
 use lib.ListN.{length, length-set}
 use borrow.Author.Needs.{needs}
-use Rattle.lists.proofs.Leaves.{over, over-none, over-stored, put-done}
+use Rattle.lists.specs.Places.{over}
+use Rattle.lists.proofs.Leaves.{over-none, over-stored, put-done}
 use Rattle.lists.proofs.moves.put.Statement.{statement}
 use Rattle.lists.proofs.moves.put.Tie as tie
 

@@ -4,7 +4,8 @@ use native.Mathlib.Omega.{arith}
 use mathlib.Core.Path.{_≡_}
 use lib.ListN.{length, drop, length-set}
 use borrow.Author.Needs.{needs}
-use Rattle.lists.proofs.Leaves.{over, over-none, shift-turn, shift-done}
+use Rattle.lists.specs.Places.{over}
+use Rattle.lists.proofs.Leaves.{over-none, shift-turn, shift-done}
 use Rattle.lists.proofs.moves.shift.Statement.{statement}
 use Rattle.lists.proofs.moves.shift.Tie as tie
 

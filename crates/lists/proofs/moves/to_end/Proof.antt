@@ -4,7 +4,8 @@ use native.Mathlib.Omega.{arith}
 use mathlib.Core.Path.{_≡_}
 use lib.ListN.{length, length-set}
 use borrow.Author.Needs.{needs}
-use Rattle.lists.proofs.Leaves.{over, gap, moved-none, gap-start, gap-turn, gap-closed}
+use Rattle.lists.specs.Places.{over}
+use Rattle.lists.proofs.Leaves.{gap, moved-none, gap-start, gap-turn, gap-closed}
 use Rattle.lists.proofs.moves.to_end.Statement.{statement}
 use Rattle.lists.proofs.moves.to_end.Tie as tie
 

@@ -4,8 +4,9 @@ use mathlib.Core.List.{map}
 use mathlib.Core.Path.{_≡_, refl}
 use lib.ListN.{length, length-set}
 use borrow.Author.Needs.{needs}
-use Rattle.keys.specs.Keys.{pageOf, over}
-use Rattle.keys.proofs.Places.{over-none}
+use Rattle.lists.specs.Places.{over}
+use Rattle.lists.proofs.Leaves.{over-none}
+use Rattle.keys.specs.Keys.{pageOf}
 use Rattle.min.proofs.Written.{pages-turn, pages-done}
 use Rattle.min.proofs.write.copy_pages.Statement.{statement}
 use Rattle.min.proofs.write.copy_pages.Tie as tie
