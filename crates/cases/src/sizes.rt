@@ -41,7 +41,7 @@ fn traces(k: u32, a: u32) {
     show::three(
         b"",
         layered.refusal,
-        layered.evictions,
+        layered.bundles,
         layered.s,
         layered.revealed,
     );

@@ -15,7 +15,7 @@ fn figures(label: &[u8], trace: &[u32], pages: &mut [u32], numbers: &mut [u32]) 
     show::three(
         label,
         layered.refusal,
-        layered.evictions,
+        layered.bundles,
         layered.s,
         layered.revealed,
     );

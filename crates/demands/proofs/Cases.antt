@@ -14,13 +14,13 @@ use Rattle.paging.specs.Refusals.{sizesRefusal}
 use Rattle.paging.specs.Rows.{rowsOf}
 use Rattle.paging.specs.Schedule.{Entry, ev, pf}
 use Rattle.lru.specs.Refusing as lru
-use Rattle.lru.specs.Standing.{Call, State, afterCalls}
+use Rattle.lru.specs.Standing.{Call, State, afterCalls, emptyState}
 use Rattle.layers.specs.Calls.{stateRefusal, requestRefusal, requestReply, pagesNext, numbersNext}
 use Rattle.layers.specs.Formed as formed
 use Rattle.layers.specs.Questions.{Verdict, refusedWith, possibleSet, countDiffers, broken, verdict, possibleRefusal, layersIn}
-use Rattle.layers.specs.Traces.{traceRefusal, traceTotals, pagesOver, numbersOver}
+use Rattle.layers.specs.Traces.{traceTotals, pagesOver, numbersOver, overRefusal}
 use Rattle.min.specs.Answers as min
-use Rattle.demands.specs.Demand3.{minEntries, lruStart}
+use Rattle.demands.specs.Demand3.{minEntries}
 use Rattle.demands.specs.LayersCalls.{LayersCall, request, LayersState, layersStart, layersAfterCalls}
 
 samePages : List ℕ → List ℕ → Bool
@@ -64,7 +64,7 @@ lruCalls [] = []
 lruCalls (p ∷ ps) = record { page = p; evicted = zeros 2 } ∷ lruCalls ps
 
 lruAfter : List ℕ → State
-lruAfter pages = afterCalls (lruCalls pages) (lruStart 3 2 (zeros 3))
+lruAfter pages = afterCalls (lruCalls pages) (emptyState 3 2 (zeros 3))
 
 -- the evicted list after a request behind some pages
 bundleAt : List ℕ → ℕ → List ℕ
@@ -127,7 +127,7 @@ cases =
     ∷ eqb (refusedAt 2 1 2 (1 ∷ 2 ∷ []) 3) 10
     ∷ eqb (refusedAt 2 2 2 (1 ∷ 2 ∷ []) 3) 0
     -- 10. k 2, a 1, table of 3: 1 2 3 1 4 is accepted throughout
-    ∷ eqb (traceRefusal 2 1 (1 ∷ 2 ∷ 3 ∷ 1 ∷ 4 ∷ []) (zeros 3) (zeros 3)) 0
+    ∷ eqb (overRefusal 2 1 (1 ∷ 2 ∷ 3 ∷ 1 ∷ 4 ∷ []) (zeros 3) (zeros 3)) 0
     ∷ eqb (layersAt 2 1 3 (1 ∷ 2 ∷ 3 ∷ 1 ∷ 4 ∷ []) .run .requests) 5
     ∷ []
 
@@ -136,5 +136,5 @@ every [] = true
 every (b ∷ bs) = b and every bs
 
 marked-cases-hold : every cases ≡ true
-unfolding every cases refusedAt breaks asked layersAt layersCalls bundleAt lruAfter lruCalls zeros shift isRefused said sameEntries samePages _and_ _or_ rowBefore farther sizesRefusal min.traceRefusal lru.requestRefusal lru.wellFormed lru.traceRefusal formed.isUnused formed.follows formed.wellFormed stateRefusal requestRefusal requestReply pagesNext numbersNext verdict possibleRefusal traceRefusal traceTotals pagesOver numbersOver
+unfolding every cases refusedAt breaks asked layersAt layersCalls bundleAt lruAfter lruCalls zeros shift isRefused said sameEntries samePages _and_ _or_ rowBefore farther sizesRefusal min.overRefusal lru.requestRefusal lru.wellFormed lru.overRefusal formed.isUnused formed.follows formed.wellFormed stateRefusal requestRefusal requestReply pagesNext numbersNext verdict possibleRefusal overRefusal traceTotals pagesOver numbersOver
 marked-cases-hold = refl

@@ -3,28 +3,23 @@ use Prim.Native.Nat.{ℕ, _≤_}
 use native.Mathlib.Omega.{arith}
 use mathlib.Core.List.{List, []}
 use mathlib.Core.Path.{_≡_, refl, ap, sym, _∙_}
-use lib.Dec.{ltb}
-use lib.ListN.{length}
 use lib.Seq.{take-append-seam}
-use borrow.Author.Tests.{ltb-false}
-use Rattle.lists.proofs.Choice.{cases}
 use Rattle.paging.specs.Min.{bestCount}
-use Rattle.paging.specs.Refusals.{refuse}
-use Rattle.paging.proofs.Refusals.{sizes-pass, sizes-taken}
+use Rattle.paging.proofs.Refusals.{trace-right}
 use Rattle.theory.proofs.Best.{min-serves, min-costs-best, serving-costs-best, layers-count-best}
 use Rattle.theory.proofs.Lru.{lru-within-factor}
 use Rattle.theory.proofs.Possible.{possible-is-what-min-can-hold}
 use Rattle.records.specs.Bytes.{traceBytes, scheduleBytes}
-use Rattle.lru.specs.Standing.{acceptedPages}
+use Rattle.lru.specs.Standing.{acceptedPages, emptyState}
 use Rattle.lru.specs.declared.Run.{Run}
 use Rattle.lru.proofs.Steps as lru
 use Rattle.layers.specs.declared.LayersRun.{LayersRun}
 use Rattle.layers.proofs.Steps.{yes-exactly}
-use Rattle.min.specs.Answers.{traceRefusal, bytesRefusal, scheduleRefusal, minSchedule}
+use Rattle.min.specs.Answers.{bytesRefusal, scheduleRefusal, minSchedule}
 use Rattle.judging.specs.Answer.{cost}
 use Rattle.judging.specs.Files.{judged}
 use Rattle.judging.proofs.ExactFiles.{sound, complete}
-use Rattle.demands.specs.Demand3.{Compares, Demand3, lruStart, minEntries, scheduleWritten}
+use Rattle.demands.specs.Demand3.{Compares, Demand3, minEntries, scheduleWritten}
 use Rattle.demands.specs.LayersCalls.{layersStart, layersAfterCalls, layersTrace}
 use Rattle.demands.proofs.LayersLists.{list-stands}
 
@@ -33,16 +28,6 @@ use Rattle.demands.proofs.LayersLists.{list-stands}
 written-is : (k a : ℕ) (trace out : List ℕ) → scheduleRefusal k a trace out ≡ 0 → scheduleWritten k a trace out ≡ scheduleBytes k a (minEntries k a trace)
 unfolding minSchedule
 written-is k a trace out e = rw e (take-append-seam (scheduleBytes k a (minEntries k a trace)) _)
-
-accepted-short : (k a : ℕ) → 1 ≤ a → a ≤ k → k ≤ 256 → (trace out : List ℕ) → scheduleRefusal k a trace out ≡ 0 → length trace ≤ 65536
-unfolding traceRefusal
-accepted-short k a pos le small trace out e =
-    let rest = bytesRefusal k a trace out in
-    let behind : refuse (ltb 65536 (length trace)) 3 rest ≡ 0
-    = sym (sizes-pass k a (refuse (ltb 65536 (length trace)) 3 rest) (sizes-taken k a (record { a-low = pos; a-high = le; k-high = small }))) ∙ e in
-    cases (ltb 65536 (length trace))
-    (λ t. absurd (omega (arith, rw t at behind)))
-    (λ t. ltb-false _ _ t)
 
 judge-answers : (k a : ℕ) → 1 ≤ a → a ≤ k → k ≤ 256 → (trace out : List ℕ) → scheduleRefusal k a trace out ≡ 0
     → judged (traceBytes k a trace) (scheduleWritten k a trace out) ≡ cost (bestCount k a trace)
@@ -53,11 +38,8 @@ judge-answers k a pos le small trace out e =
       a = a;
       pages = trace;
       entries = minEntries k a trace;
-      k-some = omega arith;
-      k-most = small;
-      a-some = pos;
-      a-most = le;
-      few = accepted-short k a pos le small trace out e;
+      sizes = record { a-low = pos; a-high = le; k-high = small };
+      few = trace-right k a trace (bytesRefusal k a trace out) e .1;
       trace-is = refl;
       schedule-is = written-is k a trace out e;
       legal = min-serves k a pos le trace;
@@ -74,9 +56,9 @@ compares k a pos le small =
           ap (λ (run : LayersRun). run .evictions) (list-stands k a pos le small places calls .run-is)
           ∙ layers-count-best k a pos le (layersTrace calls (layersStart k a places));
       lru-stays-within-the-factor = λ cache calls.
-          let stands = lru.calls-stand k a calls [] (lruStart k a cache) (lru.stands-empty k a cache pos le small) in
+          let stands = lru.calls-stand k a calls [] (emptyState k a cache) (lru.stands-empty k a cache pos le small) in
           let e = ap (λ (run : Run). run .evictions) (stands .record-is) in
-          omega (arith, e, lru-within-factor k a pos le (acceptedPages calls (lruStart k a cache)));
+          omega (arith, e, lru-within-factor k a pos le (acceptedPages calls (emptyState k a cache)));
       possible-is-what-min-can-hold = λ places calls set once answer told.
           let x = layersAfterCalls calls (layersStart k a places) in
           let trace = layersTrace calls (layersStart k a places) in

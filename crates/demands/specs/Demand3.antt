@@ -13,8 +13,7 @@ use Rattle.theory.specs.Factor.{ceilDiv}
 use Rattle.theory.specs.Possible.{CanHold}
 use Rattle.wire.specs.Numbers.{Bytes}
 use Rattle.records.specs.Bytes.{traceBytes, scheduleBytes}
-use Rattle.lru.specs.Serving.{emptyRun}
-use Rattle.lru.specs.Standing.{Call, State, afterCalls, acceptedPages}
+use Rattle.lru.specs.Standing.{Call, afterCalls, acceptedPages, emptyState}
 use Rattle.layers.specs.Questions.{PossibleTold}
 use Rattle.layers.specs.declared.PossibleAnswer.{PossibleAnswer}
 use Rattle.layers.specs.declared.PossibleAnswer.the-variants.{Yes}
@@ -27,10 +26,6 @@ use Rattle.demands.specs.LayersCalls.{LayersCall, layersStart, layersAft
 -- MIN's bundles of a trace as EVs
 abbrev pub minEntries : (k a : ℕ) → (trace : List ℕ) → List Entry
 minEntries k a trace = bundles (minRule a) k 0 trace [] []
-
--- the start of an LRU list: the empty record, count 0 and any cache list
-abbrev pub lruStart : (k a : ℕ) → (cache : List ℕ) → State
-lruStart k a cache = record { run = emptyRun k a; count = 0; cache = cache }
 
 -- just the schedule's bytes, as MIN leaves them in the lent bytes
 abbrev pub scheduleWritten : (k a : ℕ) → (trace out : List ℕ) → List ℕ
@@ -46,7 +41,7 @@ pub record Compares (k a : ℕ) : Type 0 where
       → layersAfterCalls calls (layersStart k a places) .run .evictions ≡ bestCount k a (layersTrace calls (layersStart k a places))
   -- "after an LRU list its record's evictions are at most k/a, rounded up, times the best count of its trace"
   pub lru-stays-within-the-factor : (cache : List ℕ) (calls : List Call)
-      → afterCalls calls (lruStart k a cache) .run .evictions ≤ ceilDiv k a * bestCount k a (acceptedPages calls (lruStart k a cache))
+      → afterCalls calls (emptyState k a cache) .run .evictions ≤ ceilDiv k a * bestCount k a (acceptedPages calls (emptyState k a cache))
   -- "after a layers list a set, its pages each named once, in any order, is answered possible exactly if pages can be put behind the
   -- trace so that MIN's rule, on the whole, holds just that set after the trace's last request"
   pub possible-is-what-min-can-hold : (places : ℕ) (calls : List LayersCall) (set : List ℕ) → distinct set ≡ true

@@ -63,10 +63,10 @@ pub extern "C" fn layers_bundles(
     numbers: &mut [u32],
 ) -> i64
     ensures { λ r. ⌜ (r ≡ signed (traceTotals k a (now (trace .entry)) (now (pages .entry)) (now (numbers .entry)) .refusal)
-        (traceTotals k a (now (trace .entry)) (now (pages .entry)) (now (numbers .entry)) .evictions))
+        (traceTotals k a (now (trace .entry)) (now (pages .entry)) (now (numbers .entry)) .bundles))
         × (now (pages .exit) ≡ pagesOver k a (now (trace .entry)) (now (pages .entry)) (now (numbers .entry)))
         × (now (numbers .exit) ≡ numbersOver k a (now (trace .entry)) (now (pages .entry)) (now (numbers .entry))) ⌝ }
 {
     let totals = layers::over_trace(k, a, trace, pages, numbers);
-    number(totals.refusal, totals.evictions as usize)
+    number(totals.refusal, totals.bundles as usize)
 }

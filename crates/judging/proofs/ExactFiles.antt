@@ -1,6 +1,6 @@
 -- Exactness over files: the judge answers the cost c exactly if the two files are, byte for byte, a trace and a legal schedule of it
 -- with the cost c.
-use Prim.Native.Nat.{ℕ, zero, suc, _≤_, _<_}
+use Prim.Native.Nat.{ℕ, zero, suc, _≤_}
 use native.Mathlib.Omega.{arith}
 use mathlib.Core.Bool.{true, false}
 use mathlib.Core.List.{List, [], _∷_}
@@ -9,10 +9,11 @@ use mathlib.Core.Path.{_≡_, refl, sym, ap, _∙_}
 use lib.Dec.{eqb, leb, ltb}
 use lib.ListN.{length, drop}
 use borrow.Author.Tests.{eq-eqb, le-ltb}
-use Rattle.lists.specs.Choice.{_and_, _or_}
-use Rattle.lists.proofs.Choice.{cases, tests, and-l, and-r, and-i, or-none-l, or-none-r}
-use Rattle.paging.specs.Refusals.{sizesRefusal}
+use Rattle.lists.specs.Choice.{_and_}
+use Rattle.lists.proofs.Choice.{cases, tests, and-l, and-r, and-i}
+use Rattle.paging.specs.Refusals.{SizesRight}
 use Rattle.paging.specs.Schedule.{Entry, ev, pf, serves, entriesCost}
+use Rattle.paging.proofs.Refusals.{sizes-right}
 use Rattle.wire.specs.Numbers.{Bytes}
 use Rattle.wire.proofs.Numbers.{length-nums32}
 use Rattle.records.specs.Bytes.{scheduleBytes, AllWritable}
@@ -82,20 +83,6 @@ behind-requests file go c e =
     (λ d. (omega tests, omega tests, rw (m, d) at e))
     (λ d. let w : refused (file .damage) ≡ cost c = rw (m, d) at e in absurd (no-cost w)))
 
-in-range : (k a : ℕ) → sizesRefusal k a 0 ≡ 0 → (0 < k) × (k ≤ 256) × (0 < a) × (a ≤ k)
-unfolding sizesRefusal
-in-range k a e =
-    cases (eqb k 0 or ltb 256 k)
-    (λ m. let z : 1 ≡ 0 = rw m at e in absurd (omega arith))
-    (λ m. cases (eqb a 0 or ltb k a)
-    (λ d. let z : 2 ≡ 0 = rw (m, d) at e in absurd (omega arith))
-    (λ d.
-    let k0 = or-none-l (eqb k 0) (ltb 256 k) m in
-    let k1 = or-none-r (eqb k 0) (ltb 256 k) m in
-    let a0 = or-none-l (eqb a 0) (ltb k a) d in
-    let a1 = or-none-r (eqb a 0) (ltb k a) d in
-    (omega tests, omega tests, omega tests, omega tests)))
-
 -- The two halves
 
 -- a schedule that costs something to a trace
@@ -130,12 +117,12 @@ module _ (k a : ℕ) (pages schedule : List ℕ) (c : ℕ) where
       own-ka k′ a′ next bs (x .3) (omega tests) (omega tests) (rw m at w))
       (λ m. let z : refused 6 ≡ cost c = rw m at w in absurd (no-cost z))
 
-  schedule-complete : (es : List Entry) → 0 < k → k ≤ 256 → 0 < a → a ≤ k → schedule ≡ scheduleBytes k a es → serves k a pages es ≡ true → c ≡ entriesCost es
+  schedule-complete : (es : List Entry) → SizesRight k a → schedule ≡ scheduleBytes k a es → serves k a pages es ≡ true → c ≡ entriesCost es
       → scheduleJudged k a pages schedule ≡ cost c
   unfolding _and_
-  schedule-complete es k0 k1 a0 a1 b l w =
+  schedule-complete es right b l w =
       let d = exact k a pages es c .1 (l, w) in
-      let r = schedule-reads-back a k a es k0 k1 a0 a1 (writable a es (omega arith) (d .0)) in
+      let r = schedule-reads-back a k a es right (writable a es (omega arith) (d .0)) in
       let first : readSchedule a schedule 0 ≡ reading.sizes k a 6 = rw b (r .0) in
       let rest : entriesFrom a schedule 6 ≡ record { held = es; damage = 0 } = sym (entries-sizes a schedule 0 k a 6 first) ∙ rw b (r .1) in
       rw (first, eq-eqb k k refl, eq-eqb a a refl, rest) (d .1)
@@ -149,7 +136,7 @@ module _ (trace schedule : List ℕ) (c : ℕ) where
       let a = x .1 in
       let next = x .2 in
       let y = behind-requests (requestsFrom trace next) (λ pages. scheduleJudged k a pages schedule) c (x .4) in
-      let range = in-range k a (trace-says trace 0 (reading.sizes k a next) (x .3) .right) in
+      let right = sizes-right k a (trace-says trace 0 (reading.sizes k a next) (x .3) .right) in
       let same = requests-sizes trace 0 k a next (x .3) in
       let undamaged : requestsFrom trace 0 .damage ≡ 0 = ap (λ (f : File ℕ). f .damage) same ∙ y .1 in
       let bytes = trace-exact trace bt k a next (x .3) undamaged in
@@ -159,10 +146,7 @@ module _ (trace schedule : List ℕ) (c : ℕ) where
         a = a;
         pages = requestsFrom trace next .held;
         entries = d .entries;
-        k-some = range .0;
-        k-most = range .1;
-        a-some = range .2;
-        a-most = range .3;
+        sizes = right;
         few = y .0;
         trace-is = rw same at bytes;
         schedule-is = d .bytes;
@@ -175,11 +159,11 @@ module _ (trace schedule : List ℕ) (c : ℕ) where
   complete f =
       let k = f .k in
       let a = f .a in
-      let r = trace-reads-back k a (f .pages) (f .k-some) (f .k-most) (f .a-some) (f .a-most) in
+      let r = trace-reads-back k a (f .pages) (f .sizes) in
       let first : readTrace trace 0 ≡ reading.sizes k a 6 = rw (f .trace-is) (r .0) in
       let rest : requestsFrom trace 6 ≡ record { held = f .pages; damage = 0 } = sym (requests-sizes trace 0 k a 6 first) ∙ rw (f .trace-is) (r .1) in
       let few : ltb longest (length (f .pages)) ≡ false = le-ltb 65536 (length (f .pages)) (f .few) in
-      let j = schedule-complete k a (f .pages) schedule c (f .entries) (f .k-some) (f .k-most) (f .a-some) (f .a-most) (f .schedule-is) (f .legal) (f .costs) in
+      let j = schedule-complete k a (f .pages) schedule c (f .entries) (f .sizes) (f .schedule-is) (f .legal) (f .costs) in
       rw (first, rest, few) j
 
   -- the judge answers the cost c exactly if the files are a trace and a legal schedule of it that costs c

@@ -105,7 +105,7 @@ revealed-told run pages numbers c r told =
     }
 
 pub s-most : (run : LayersRun) (pages numbers : List ℕ) → Ready run pages numbers → run .s ≤ 256
-s-most run pages numbers r = let low = sound run pages numbers r in let a = low .s-high in let b = low .k-high in omega arith
+s-most run pages numbers r = let low = sound run pages numbers r in let a = low .s-high in let b = low .sizes .k-high in omega arith
 
 -- Possible sets: the numbers of the set's pages
 

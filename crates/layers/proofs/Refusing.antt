@@ -3,19 +3,17 @@ use Prim.Native.Nat.{ℕ, _+_, _-_, _≤_}
 use native.Mathlib.Omega.{arith}
 use mathlib.Core.Bool.{true, false, not}
 use mathlib.Core.List.{List}
-use mathlib.Core.Path.{_≡_, refl, sym, ap, _∙_}
+use mathlib.Core.Path.{_≡_, sym, ap, _∙_}
 use lib.Dec.{eqb, ltb}
 use lib.ListN.{length}
-use borrow.Author.Tests.{eq-eqb, ne-eqb, eqb-true, eqb-false, leb-true, not-false}
-use Rattle.lists.specs.Choice.{pick}
+use borrow.Author.Tests.{eq-eqb, ne-eqb, eqb-true, leb-true, not-false}
 use Rattle.lists.specs.Pages.{bit}
 use Rattle.lists.specs.Sorting.{Row}
-use Rattle.lists.proofs.Choice.{cases, clash}
 use Rattle.paging.specs.Layers.{isJoin, topAfter}
 use Rattle.paging.specs.Refusals.{sizesRefusal, SizesRight}
 use Rattle.paging.specs.Rows.{rowsOf, numbersOf, pagesOf, usedRows, tableOf}
 use Rattle.paging.specs.Table.{ruleIn}
-use Rattle.paging.proofs.Refusals.{zero-pass, sizes-pass, sizes-fall, sizes-zero, sizes-right, sizes-taken}
+use Rattle.paging.proofs.Refusals.{zero-pass, Chain, chain-end, chain-refuse, chain-behind, chain-fall, sizes-chain, sizes-pass, sizes-fall, sizes-rest, sizes-taken}
 use Rattle.paging.proofs.Rows.{numbers-back, pages-back}
 use Rattle.table.specs.Serving.{Sound, SteppedTo, ruleOf}
 use Rattle.table.specs.declared.Stepped.{Stepped}
@@ -48,46 +46,37 @@ module _ (run : LayersRun) (pages numbers : List ℕ) where
 
   pub state-pass : Ready run pages numbers → (rest : ℕ) → stateRefusal run pages numbers rest ≡ rest
   unfolding stateRefusal
-  state-pass r rest = sizes-pass (run .k) (run .a) _ (sizes-taken (run .k) (run .a) (r .sizes)) ∙ rw (eq-eqb (length pages) (length numbers) (r .even), r .formed)
+  state-pass r rest = sizes-taken (run .k) (run .a) (r .sizes) _ ∙ rw (eq-eqb (length pages) (length numbers) (r .even), r .formed)
 
   pub state-ready : stateRefusal run pages numbers 0 ≡ 0 → Ready run pages numbers
   unfolding stateRefusal
   state-ready z =
-      let right = sizes-zero (run .k) (run .a) _ z in
-      let first = zero-pass (not (eqb (length pages) (length numbers))) 8 _ (λ e. omega arith) (sym (sizes-pass (run .k) (run .a) _ right) ∙ z) in
+      let right = sizes-rest (run .k) (run .a) _ z in
+      let first = zero-pass (not (eqb (length pages) (length numbers))) 8 _ (λ e. omega arith) (right .1) in
       let second = zero-pass (not (wellFormed run (rowsOf numbers pages))) 9 _ (λ e. omega arith) (first .1) in
       record {
-        sizes = sizes-right (run .k) (run .a) right;
+        sizes = right .0;
         even = eqb-true (length pages) (length numbers) (not-false _ (first .0));
         formed = not-false _ (second .0);
       }
 
-  -- the refusals of the state do not depend on what is judged behind them
-  state-is : (rest : ℕ) → stateRefusal run pages numbers rest ≡ pick (eqb (stateRefusal run pages numbers 0) 0) rest (stateRefusal run pages numbers 0)
-  state-is rest =
-      cases (eqb (stateRefusal run pages numbers 0) 0)
-      (λ e. rw e (state-pass (state-ready (eqb-true _ 0 e)) rest))
-      (λ e. rw e (
-      cases (eqb (sizesRefusal (run .k) (run .a) 0) 0)
-      (λ s. let right = eqb-true (sizesRefusal (run .k) (run .a) 0) 0 s in
-      cases (eqb (length pages) (length numbers))
-      (λ l. cases (wellFormed run (rowsOf numbers pages))
-      (λ w. clash _ (eq-eqb _ 0 (state-pass (record { sizes = sizes-right (run .k) (run .a) right; even = eqb-true _ _ l; formed = w }) 0)) e)
-      (λ w. state-ill right (eqb-true _ _ l) w rest ∙ sym (state-ill right (eqb-true _ _ l) w 0)))
-      (λ l. state-uneven right (eqb-false _ _ l) rest ∙ sym (state-uneven right (eqb-false _ _ l) 0)))
-      (λ s. state-sizes _ refl (eqb-false _ 0 s) rest ∙ sym (state-sizes _ refl (eqb-false _ 0 s) 0))))
+  state-chain : Chain (stateRefusal run pages numbers)
+  unfolding stateRefusal
+  state-chain =
+      let uneven = not (eqb (length pages) (length numbers)) in
+      let ill = not (wellFormed run (rowsOf numbers pages)) in
+      chain-behind (sizesRefusal (run .k) (run .a)) (λ rest. refuse uneven 8 (refuse ill 9 rest)) (sizes-chain (run .k) (run .a))
+      (chain-refuse uneven 8 (λ rest. refuse ill 9 rest) (λ z. omega arith) (chain-refuse ill 9 (λ rest. rest) (λ z. omega arith) chain-end))
 
   pub state-fall : (number : ℕ) → number ≡ stateRefusal run pages numbers 0 → (number ≡ 0 → ⊥) → (rest : ℕ) → stateRefusal run pages numbers rest ≡ number
-  state-fall number e n rest = state-is rest ∙ rw (← e, ne-eqb number 0 n)
+  state-fall number e n rest = chain-fall (stateRefusal run pages numbers) state-chain rest number e n
 
 -- A request
 
 pub sound : (run : LayersRun) (pages numbers : List ℕ) → Ready run pages numbers → Sound (run .k) (run .a) (run .s)
 sound run pages numbers r =
     record {
-      a-low = r .sizes .a-low;
-      a-high = r .sizes .a-high;
-      k-high = r .sizes .k-high;
+      sizes = r .sizes;
       s-high = leb-true (run .s) (run .k) (facts run (rowsOf numbers pages) (r .formed) .s-low);
     }
 

@@ -1,6 +1,6 @@
 -- Calls one after the other: the record and the table that stand for a trace, from the empty state on. An accepted request leads to what
 -- stands for the longer trace, no such state is refused as ill formed, and a question is answered by the layers of the trace as a map.
-use Prim.Native.Nat.{ℕ, zero, suc, _+_, _-_, _≤_, _<_}
+use Prim.Native.Nat.{ℕ, zero, suc, _+_, _-_, _≤_}
 use native.Mathlib.Omega.{arith}
 use mathlib.Core.Bool.{Bool, true, false, not, false≢true}
 use mathlib.Core.List.{List, [], _∷_, _++_}
@@ -8,22 +8,23 @@ use mathlib.Core.Path.{_≡_, refl, sym, ap, subst, _∙_}
 use lib.Dec.{eqb, ltb}
 use lib.ListN.{length, replicate, length-append, length-replicate}
 use borrow.Author.Tests.{eq-eqb, ne-eqb, le-ltb, ltb-false}
-use Rattle.lists.specs.Choice.{pick, _and_, _or_}
+use Rattle.lists.specs.Choice.{pick, _and_}
 use Rattle.lists.specs.Pages.{bit, distinct}
 use Rattle.lists.specs.Sorting.{Row}
 use Rattle.lists.proofs.Choice.{tests, cases, and-i, or-none, or-none-l, or-none-r}
 use Rattle.lists.proofs.Pages.{count-length}
 use Rattle.paging.specs.Layers.{Layers, noLayers, isJoin, topAfter, layered, layersAfter, layerRules, joinCount, holdsUpTo, possible}
-use Rattle.paging.specs.Refusals.{refuse, sizesRefusal}
+use Rattle.paging.specs.Refusals.{refuse, SizesRight}
 use Rattle.paging.specs.Rows.{rowsOf, numbersOf, pagesOf, unused, usedRows, tableOf}
 use Rattle.paging.specs.Table.{numberIn, ruleIn, revealed, Tabled, nothingYet, tabledNext, tabledAfter}
 use Rattle.paging.proofs.Forming.{FormedRows, no-rows-formed, request-forms, one-row-more, used-table}
+use Rattle.paging.proofs.Refusals.{zero-pass, sizes-taken, trace-right, trace-taken}
 use Rattle.paging.proofs.Rows.{rows-back}
 use Rattle.paging.proofs.Table.{tabled-map, tabled-top, tabled-joins, tabled-snoc}
 use Rattle.layers.specs.Calls.{emptyRun, stateRefusal, rowsNext, ruleNext, runNext, requestRefusal, requestReply, tableNext, pagesNext, numbersNext}
 use Rattle.layers.specs.Formed.{wellFormed, isUnused}
 use Rattle.layers.specs.Questions.{layersIn, Verdict, possibleSet, countDiffers, broken, refusedWith, verdictOf, judged, possibleRefusal, verdict, PossibleTold}
-use Rattle.layers.specs.Traces.{overflows, allUnused, traceRefusal, traceTotals, pagesOver, numbersOver}
+use Rattle.layers.specs.Traces.{overflows, allUnused, traceTotals, pagesOver, numbersOver, overRefusal, earlyRefusal}
 use Rattle.layers.specs.declared.LayersRun.{LayersRun}
 use Rattle.layers.specs.declared.PossibleAnswer.{PossibleAnswer}
 use Rattle.layers.specs.declared.PossibleAnswer.the-variants.{Yes, CountDiffers, BrokenAt, Refused}
@@ -71,9 +72,7 @@ runAfter k a trace = record {
 }
 
 pub record Stands (k a : ℕ) (trace : List ℕ) (run : LayersRun) (pages numbers : List ℕ) : Type 0 where
-  pub a-low : 1 ≤ a
-  pub a-high : a ≤ k
-  pub k-high : k ≤ 256
+  pub sizes : SizesRight k a
   pub run-is : run ≡ runAfter k a trace
   pub one-length : length pages ≡ length numbers
   pub table-is : rowsOf numbers pages ≡ tableOf (length pages) (tabledAfter k a trace nothingYet .rows)
@@ -107,9 +106,7 @@ table-stands k a pos le top trace places h =
     let table = tableOf places rows in
     let long : length (pagesOf table) ≡ places = length-pages table ∙ length-table places rows h in
     record {
-      a-low = pos;
-      a-high = le;
-      k-high = top;
+      sizes = record { a-low = pos; a-high = le; k-high = top };
       run-is = refl;
       one-length = length-pages table ∙ sym (length-numbers table);
       table-is = rw long (rows-back table);
@@ -123,9 +120,7 @@ start-stands k a pos le top n =
     let whole : n ≡ n - 0 = omega arith in
     let empty : rowsOf (replicate n 0) (replicate n 0) ≡ tableOf n [] = zeros n ∙ ap (λ m. replicate m unused) whole in
     record {
-      a-low = pos;
-      a-high = le;
-      k-high = top;
+      sizes = record { a-low = pos; a-high = le; k-high = top };
       run-is = refl;
       one-length = refl;
       table-is = rw (length-replicate {A = ℕ} n 0) empty;
@@ -139,25 +134,16 @@ start-stands k a pos le top n =
 
 -- Refusals
 
--- a condition that did not refuse does not hold, nor any behind it
-passed : (b : Bool) (number rest : ℕ) → 0 < number → refuse b number rest ≡ 0 → (b ≡ false) × (rest ≡ 0)
-passed true number rest h e = absurd (omega arith)
-passed false number rest h e = (refl, e)
-
 -- no call on such a state is refused with 1, 2, 8 or 9
 pub never-ill-formed : (k a : ℕ) (trace : List ℕ) (run : LayersRun) (pages numbers : List ℕ) → Stands k a trace run pages numbers
     → (rest : ℕ) → stateRefusal run pages numbers rest ≡ rest
-unfolding stateRefusal sizesRefusal
+unfolding stateRefusal
 never-ill-formed k a trace run pages numbers S rest =
-    let pos = S .a-low in
-    let le = S .a-high in
-    let top = S .k-high in
     let same-k : run .k ≡ k = ap (λ r. r .k) (S .run-is) in
     let same-a : run .a ≡ a = ap (λ r. r .a) (S .run-is) in
-    let sized : eqb (run .k) 0 or ltb 256 (run .k) ≡ false = or-none _ _ (ne-eqb (run .k) 0 (λ e. omega arith)) (le-ltb 256 (run .k) (omega arith)) in
-    let bundled : eqb (run .a) 0 or ltb (run .k) (run .a) ≡ false = or-none _ _ (ne-eqb (run .a) 0 (λ e. omega arith)) (le-ltb (run .k) (run .a) (omega arith)) in
+    let right : SizesRight (run .k) (run .a) = rw (same-k, same-a) (S .sizes) in
     let long : eqb (length pages) (length numbers) ≡ true = eq-eqb _ _ (S .one-length) in
-    rw (sized, bundled, long, S .well)
+    sizes-taken (run .k) (run .a) right _ ∙ rw (long, S .well)
 
 -- a refused request leaves both lists as they are
 pub refusal-keeps : (run : LayersRun) (pages numbers : List ℕ) (p : ℕ) → (requestRefusal run pages numbers p ≡ 0 → ⊥)
@@ -199,14 +185,14 @@ unfolding requestRefusal
 not-full run pages numbers p formed e =
     let full = ltb (length pages) (length (rowsNext run p (rowsOf numbers pages))) in
     let ended = eqb (run .requests) 4294967295 in
-    let later = passed ended 12 (refuse full 10 0) (omega arith) (sym (formed (refuse ended 12 (refuse full 10 0))) ∙ e) in
-    ltb-false _ _ (passed full 10 0 (omega arith) (later .1) .0)
+    let later = zero-pass ended 12 (refuse full 10 0) (λ z. omega arith) (sym (formed (refuse ended 12 (refuse full 10 0))) ∙ e) in
+    ltb-false _ _ (zero-pass full 10 0 (λ z. omega arith) (later .1) .0)
 
 module _ (k a : ℕ) (trace : List ℕ) (run : LayersRun) (pages numbers : List ℕ) (S : Stands k a trace run pages numbers) where
   -- the used rows are those of the trace
   pub used-is : usedRows (rowsOf numbers pages) ≡ tabledAfter k a trace nothingYet .rows
   used-is =
-      rw (S .table-is) (used-table (length pages) (tabledAfter k a trace nothingYet .rows) (tabled-formed k a (S .a-low) (S .a-high) trace .above))
+      rw (S .table-is) (used-table (length pages) (tabledAfter k a trace nothingYet .rows) (tabled-formed k a (S .sizes .a-low) (S .sizes .a-high) trace .above))
 
   top-is : run .s ≡ tabledAfter k a trace nothingYet .s
   top-is = ap (λ r. r .s) (S .run-is) ∙ sym (tabled-top k a trace)
@@ -255,7 +241,7 @@ request-stands k a trace run pages numbers S p e =
       same-run k a trace run pages numbers S p,
       same-rows k a trace run pages numbers S p,
     )
-    (table-stands k a (S .a-low) (S .a-high) (S .k-high) (trace ++ (p ∷ [])) (length pages) (room-kept k a trace run pages numbers S p e))
+    (table-stands k a (S .sizes .a-low) (S .sizes .a-high) (S .sizes .k-high) (trace ++ (p ∷ [])) (length pages) (room-kept k a trace run pages numbers S p e))
 
 -- Questions
 
@@ -321,50 +307,39 @@ module _ (k a : ℕ) (trace : List ℕ) (run : LayersRun) (pages numbers : List 
 
 -- The call over a whole trace
 
-sizes-passed : (k a rest : ℕ) → sizesRefusal k a rest ≡ 0 → (1 ≤ a) × (a ≤ k) × (k ≤ 256) × (rest ≡ 0)
-unfolding sizesRefusal
-sizes-passed k a rest e =
-    let first = passed (eqb k 0 or ltb 256 k) 1 (refuse (eqb a 0 or ltb k a) 2 rest) (omega arith) e in
-    let second = passed (eqb a 0 or ltb k a) 2 rest (omega arith) (first .1) in
-    let large : k ≤ 256 = ltb-false _ _ (or-none-r _ _ (first .0)) in
-    let none : eqb a 0 ≡ false = or-none-l _ _ (second .0) in
-    let less : a ≤ k = ltb-false _ _ (or-none-r _ _ (second .0)) in
-    (omega tests, less, large, second .1)
-
 rows-fit : (k a places : ℕ) (trace : List ℕ) (T : Tabled) → length (T .rows) ≤ places → overflows k a places trace T ≡ false
     → length (tabledAfter k a trace T .rows) ≤ places
 rows-fit k a places [] T h e = h
 rows-fit k a places (p ∷ ps) T h e =
     rows-fit k a places ps (tabledNext k a p T) (ltb-false _ _ (or-none-l _ _ e)) (or-none-r _ _ e)
 
-trace-passed : (k a : ℕ) (trace pages numbers : List ℕ) → traceRefusal k a trace pages numbers ≡ 0
-    → (1 ≤ a) × (a ≤ k) × (k ≤ 256) × (overflows k a (length pages) trace nothingYet ≡ false)
-unfolding traceRefusal
+trace-passed : (k a : ℕ) (trace pages numbers : List ℕ) → overRefusal k a trace pages numbers ≡ 0
+    → SizesRight k a × (overflows k a (length pages) trace nothingYet ≡ false)
+unfolding earlyRefusal
 trace-passed k a trace pages numbers e =
     let full = overflows k a (length pages) trace nothingYet in
     let used = not (allUnused (rowsOf numbers pages)) in
     let uneven = not (eqb (length pages) (length numbers)) in
-    let long = ltb 65536 (length trace) in
-    let sizes = sizes-passed k a (refuse long 3 (refuse uneven 8 (refuse used 9 (refuse full 10 0)))) e in
-    let third = passed long 3 (refuse uneven 8 (refuse used 9 (refuse full 10 0))) (omega arith) (sizes .3) in
-    let eighth = passed uneven 8 (refuse used 9 (refuse full 10 0)) (omega arith) (third .1) in
-    let ninth = passed used 9 (refuse full 10 0) (omega arith) (eighth .1) in
-    (sizes .0, sizes .1, sizes .2, passed full 10 0 (omega arith) (ninth .1) .0)
+    let right = trace-right k a trace (refuse uneven 8 (refuse used 9 (refuse full 10 0))) e in
+    let eighth = zero-pass uneven 8 (refuse used 9 (refuse full 10 0)) (λ z. omega arith) (right .2) in
+    let ninth = zero-pass used 9 (refuse full 10 0) (λ z. omega arith) (eighth .1) in
+    (right .0, zero-pass full 10 0 (λ z. omega arith) (ninth .1) .0)
 
 -- the lists that the call leaves stand for the trace, as after single calls
-pub trace-stands : (k a : ℕ) (trace pages numbers : List ℕ) → traceRefusal k a trace pages numbers ≡ 0
+pub trace-stands : (k a : ℕ) (trace pages numbers : List ℕ) → overRefusal k a trace pages numbers ≡ 0
     → Stands k a trace (runAfter k a trace) (pagesOver k a trace pages numbers) (numbersOver k a trace pages numbers)
 unfolding pagesOver numbersOver
 trace-stands k a trace pages numbers e =
     let ok = trace-passed k a trace pages numbers e in
-    rw e (table-stands k a (ok .0) (ok .1) (ok .2) trace (length pages) (rows-fit k a (length pages) trace nothingYet (omega arith) (ok .3)))
+    let right = ok .0 in
+    rw e (table-stands k a (right .a-low) (right .a-high) (right .k-high) trace (length pages) (rows-fit k a (length pages) trace nothingYet (omega arith) (ok .1)))
 
 -- its answer is the layers' count, s and revealed pages
-pub trace-counts : (k a : ℕ) (trace pages numbers : List ℕ) → traceRefusal k a trace pages numbers ≡ 0
+pub trace-counts : (k a : ℕ) (trace pages numbers : List ℕ) → overRefusal k a trace pages numbers ≡ 0
     → traceTotals k a trace pages numbers
     ≡ record {
       refusal = 0;
-      evictions = joinCount k a trace;
+      bundles = joinCount k a trace;
       s = layersAfter k a trace noLayers .top;
       revealed = revealed (layersAfter k a trace noLayers .top) (tabledAfter k a trace nothingYet .rows);
     }
@@ -373,13 +348,13 @@ trace-counts k a trace pages numbers e = rw (e, tabled-joins k a trace, tabled-t
 
 -- it is not refused where the sizes are right, the trace is not too long, and the table is unused and has a place for each request
 pub trace-accepted : (k a : ℕ) → 1 ≤ a → a ≤ k → k ≤ 256 → (trace : List ℕ) → length trace ≤ 65536 → (n : ℕ) → length trace ≤ n
-    → traceRefusal k a trace (replicate n 0) (replicate n 0) ≡ 0
-unfolding traceRefusal sizesRefusal
+    → overRefusal k a trace (replicate n 0) (replicate n 0) ≡ 0
+unfolding earlyRefusal
 trace-accepted k a pos le top trace short n h =
-    let sized : eqb k 0 or ltb 256 k ≡ false = or-none _ _ (ne-eqb k 0 (λ e. omega arith)) (le-ltb 256 k (omega arith)) in
-    let bundled : eqb a 0 or ltb k a ≡ false = or-none _ _ (ne-eqb a 0 (λ e. omega arith)) (le-ltb k a (omega arith)) in
+    let right : SizesRight k a = record { a-low = pos; a-high = le; k-high = top } in
     let fits : overflows k a (length (replicate {A = ℕ} n 0)) trace nothingYet ≡ false = rw (length-replicate {A = ℕ} n 0) (no-overflow k a n trace h) in
-    rw (sized, bundled, le-ltb 65536 (length trace) short, eq-eqb (length (replicate {A = ℕ} n 0)) (length (replicate {A = ℕ} n 0)) refl, zeros-unused n, fits)
+    trace-taken k a trace right short _
+    ∙ rw (eq-eqb (length (replicate {A = ℕ} n 0)) (length (replicate {A = ℕ} n 0)) refl, zeros-unused n, fits)
   where
     zeros-unused : (m : ℕ) → allUnused (rowsOf (replicate m 0) (replicate m 0)) ≡ true
     zeros-unused zero = refl

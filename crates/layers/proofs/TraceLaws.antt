@@ -15,19 +15,19 @@ use Rattle.lists.specs.Pages.{bit}
 use Rattle.lists.specs.Sorting.{Row}
 use Rattle.lists.proofs.Choice.{cases, clash}
 use Rattle.paging.specs.Layers.{LayerRule, isJoin, topAfter}
-use Rattle.paging.specs.Refusals.{sizesRefusal}
+use Rattle.paging.specs.Refusals.{traceRefusal}
 use Rattle.paging.specs.Rows.{rowsOf, rowAt, unused, usedRows, tableOf}
 use Rattle.paging.specs.Table.{ruleIn, rowsAfter, sizeOf, Tabled, nothingYet, tabledNext, tabledAfter}
 use Rattle.paging.proofs.Forming.{FormedRows, no-rows-formed, request-forms, one-row-more, used-table}
-use Rattle.paging.proofs.Refusals.{sizes-pass, sizes-fall}
+use Rattle.paging.proofs.Refusals.{trace-fall, trace-pass}
 use Rattle.paging.proofs.Rows.{rows-length, rows-get, rows-take, rows-drop, rows-append}
 use Rattle.table.specs.Filling.{Filled}
 use Rattle.table.specs.Serving.{Sound, SteppedTo, ruleOf}
 use Rattle.table.specs.declared.Stepped.{Stepped}
 use Rattle.table.proofs.Serving.{used-rows, used-rule}
 use Rattle.layers.specs.Formed.{isUnused}
-use Rattle.layers.specs.Over.{ServedTo, earlyRefusal}
-use Rattle.layers.specs.Traces.{overflows, allUnused}
+use Rattle.layers.specs.Over.{ServedTo}
+use Rattle.layers.specs.Traces.{overflows, allUnused, earlyRefusal}
 
 -- what the table, s and the bundles stand for
 abbrev pub tabledIn : List Row → (s joins : ℕ) → Tabled
@@ -121,7 +121,7 @@ module _ (k a : ℕ) (trace : List ℕ) (places : ℕ) (rows : List Row) (s join
         let rule : ruleIn k s p (usedRows rows) ≡ ruleIn k s p rows = used-rule k s p rows in
         let top : r .s ≡ topAfter (ruleIn k s p (usedRows rows)) k a s = told .top-told ∙ rw (f, rule) refl in
         let formed : FormedRows k a (r .s) (rowsAfter k a s p (usedRows rows))
-        = rw top (request-forms k a s p (usedRows rows) (Y .sound .a-low) (Y .sound .a-high) (Y .formed)) in
+        = rw top (request-forms k a s p (usedRows rows) (Y .sound .sizes .a-low) (Y .sound .sizes .a-high) (Y .formed)) in
         let table : after ≡ tableOf places (rowsAfter k a s p (usedRows rows)) = told .rows-told ∙ rw (f, same) refl in
         let used-rows-are : usedRows after ≡ rowsAfter k a s p (usedRows rows) = rw table (used-table places _ (formed .above)) in
         let joined : joins + bundles ≡ joins + bit (isJoin (ruleIn k s p (usedRows rows)))
@@ -133,7 +133,7 @@ module _ (k a : ℕ) (trace : List ℕ) (places : ℕ) (rows : List Row) (s join
           counted = count ∙ ap (λ (l : List Row). length l) (sym used-rows-are);
           fits = omega arith;
           within = omega arith;
-          sound = record { a-low = Y .sound .a-low; a-high = Y .sound .a-high; k-high = Y .sound .k-high; s-high = formed .most };
+          sound = record { sizes = Y .sound .sizes; s-high = formed .most };
           few = omega (arith, Y .few, one-bundle (isJoin (ruleOf (r .rule))));
           formed = rw used-rows-are formed;
           shape = table ∙ ap (tableOf places) (sym used-rows-are);
@@ -281,29 +281,25 @@ module _ (ns ps : List ℕ) (i : ℕ) (e : length ps ≡ length ns) (seen : allU
 
 -- The refusals judged before the first request
 
-module _ (k a : ℕ) (trace pages numbers : List ℕ) where
-  pub early-sizes : (number rest : ℕ) → number ≡ sizesRefusal k a 0 → (number ≡ 0 → ⊥) → number ≡ earlyRefusal k a trace pages numbers rest
+module _ (k a : ℕ) (trace pages numbers : List ℕ) (number : ℕ) (e : number ≡ traceRefusal k a trace 0) where
+  pub early-trace : (rest : ℕ) → (number ≡ 0 → ⊥) → number ≡ earlyRefusal k a trace pages numbers rest
   unfolding earlyRefusal
-  early-sizes number rest e n = sym (sizes-fall k a _ number e n)
+  early-trace rest n = sym (trace-fall k a trace _ number e n)
 
-  module _ (number : ℕ) (e : number ≡ sizesRefusal k a 0) (z : number ≡ 0) where
-    behind-sizes : (rest : ℕ) → sizesRefusal k a rest ≡ rest
-    behind-sizes rest = sizes-pass k a rest (sym e ∙ z)
+  module _ (z : number ≡ 0) where
+    behind : (rest : ℕ) → traceRefusal k a trace rest ≡ rest
+    behind rest = trace-pass k a trace rest (sym e ∙ z)
 
-    pub early-long : (rest : ℕ) → 65536 < length trace → 3 ≡ earlyRefusal k a trace pages numbers rest
+    pub early-uneven : (rest : ℕ) → (length pages ≡ length numbers → ⊥) → 8 ≡ earlyRefusal k a trace pages numbers rest
     unfolding earlyRefusal
-    early-long rest h = sym (behind-sizes _ ∙ rw (lt-ltb _ _ h) refl)
+    early-uneven rest u = sym (behind _ ∙ rw (ne-eqb (length pages) (length numbers) u) refl)
 
-    pub early-uneven : (rest : ℕ) → length trace ≤ 65536 → (length pages ≡ length numbers → ⊥) → 8 ≡ earlyRefusal k a trace pages numbers rest
-    unfolding earlyRefusal
-    early-uneven rest h u = sym (behind-sizes _ ∙ rw (le-ltb _ _ h, ne-eqb (length pages) (length numbers) u) refl)
-
-    pub early-used : (rest : ℕ) → length trace ≤ 65536 → length pages ≡ length numbers → false ≡ allUnused (rowsOf numbers pages)
+    pub early-used : (rest : ℕ) → length pages ≡ length numbers → false ≡ allUnused (rowsOf numbers pages)
         → 9 ≡ earlyRefusal k a trace pages numbers rest
     unfolding earlyRefusal
-    early-used rest h u f = sym (behind-sizes _ ∙ rw (le-ltb _ _ h, eq-eqb (length pages) (length numbers) u, ← f) refl)
+    early-used rest u f = sym (behind _ ∙ rw (eq-eqb (length pages) (length numbers) u, ← f) refl)
 
-    pub early-none : (rest : ℕ) → length trace ≤ 65536 → length pages ≡ length numbers → true ≡ allUnused (rowsOf numbers pages)
+    pub early-none : (rest : ℕ) → length pages ≡ length numbers → true ≡ allUnused (rowsOf numbers pages)
         → rest ≡ earlyRefusal k a trace pages numbers rest
     unfolding earlyRefusal
-    early-none rest h u f = sym (behind-sizes _ ∙ rw (le-ltb _ _ h, eq-eqb (length pages) (length numbers) u, ← f) refl)
+    early-none rest u f = sym (behind _ ∙ rw (eq-eqb (length pages) (length numbers) u, ← f) refl)

@@ -6,7 +6,7 @@ use lib.Dec.{eqb, ltb}
 use lib.ListN.{length}
 use Rattle.lists.specs.Choice.{pick, _and_, _or_}
 use Rattle.lists.specs.Sorting.{Row}
-use Rattle.paging.specs.Refusals.{refuse, sizesRefusal}
+use Rattle.paging.specs.Refusals.{refuse, traceRefusal}
 use Rattle.paging.specs.Rows.{rowsOf, numbersOf, pagesOf, tableOf}
 use Rattle.paging.specs.Table.{revealed, Tabled, nothingYet, tabledNext, tabledAfter}
 use Rattle.layers.specs.Formed.{isUnused}
@@ -22,37 +22,40 @@ abbrev pub allUnused : List Row → Bool
 allUnused [] = true
 allUnused (row ∷ rows) = isUnused row and allUnused rows
 
--- the refusals in order: 1, 2, 3, 8, 9 where the table is not all unused, 10 where it falls
-unfoldable pub traceRefusal : (k a : ℕ) → (trace pages numbers : List ℕ) → ℕ
-traceRefusal k a trace pages numbers =
-    sizesRefusal k a
-    (refuse (ltb 65536 (length trace)) 3
+-- the refusals that are judged before the first request, in order: 1, 2, 3, 8, 9 where the table is not all unused; then the rest
+unfoldable pub earlyRefusal : (k a : ℕ) → (trace pages numbers : List ℕ) → ℕ → ℕ
+earlyRefusal k a trace pages numbers rest =
+    traceRefusal k a trace
     (refuse (not (eqb (length pages) (length numbers))) 8
     (refuse (not (allUnused (rowsOf numbers pages))) 9
-    (refuse (overflows k a (length pages) trace nothingYet) 10
-    0))))
+    rest))
+
+-- and 10 where the table is too small on the way
+abbrev pub overRefusal : (k a : ℕ) → (trace pages numbers : List ℕ) → ℕ
+overRefusal k a trace pages numbers =
+    earlyRefusal k a trace pages numbers (refuse (overflows k a (length pages) trace nothingYet) 10 0)
 
 abbrev pub refusedTotals : (number : ℕ) → LayersTotals
-refusedTotals number = record { refusal = number; evictions = 0; s = 0; revealed = 0 }
+refusedTotals number = record { refusal = number; bundles = 0; s = 0; revealed = 0 }
 
 -- bundles, s and revealed pages after the trace; a refusal is its number, and zero in every other field
 unfoldable pub traceTotals : (k a : ℕ) → (trace pages numbers : List ℕ) → LayersTotals
 traceTotals k a trace pages numbers =
-    let number = traceRefusal k a trace pages numbers in
+    let number = overRefusal k a trace pages numbers in
     let T = tabledAfter k a trace nothingYet in
     pick (eqb number 0)
-    (record { refusal = 0; evictions = T .joins; s = T .s; revealed = revealed (T .s) (T .rows) })
+    (record { refusal = 0; bundles = T .joins; s = T .s; revealed = revealed (T .s) (T .rows) })
     (refusedTotals number)
 
 -- both lists afterwards: the table holds the layers of the trace; a refusal leaves the lists as they were lent
 unfoldable pub pagesOver : (k a : ℕ) → (trace pages numbers : List ℕ) → List ℕ
 pagesOver k a trace pages numbers =
-    pick (eqb (traceRefusal k a trace pages numbers) 0)
+    pick (eqb (overRefusal k a trace pages numbers) 0)
     (pagesOf (tableOf (length pages) (tabledAfter k a trace nothingYet .rows)))
     pages
 
 unfoldable pub numbersOver : (k a : ℕ) → (trace pages numbers : List ℕ) → List ℕ
 numbersOver k a trace pages numbers =
-    pick (eqb (traceRefusal k a trace pages numbers) 0)
+    pick (eqb (overRefusal k a trace pages numbers) 0)
     (numbersOf (tableOf (length pages) (tabledAfter k a trace nothingYet .rows)))
     numbers

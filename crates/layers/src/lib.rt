@@ -63,7 +63,7 @@ pub enum PossibleAnswer {
 // The layers over a whole trace: bundles, s and revealed pages, or a refusal's number beside zeros.
 pub struct LayersTotals {
     pub refusal: u32,
-    pub evictions: u32,
+    pub bundles: u32,
     pub s: u32,
     pub revealed: u32,
 }
@@ -166,7 +166,7 @@ fn refused_totals(number: u32) -> LayersTotals
 {
     LayersTotals {
         refusal: number,
-        evictions: 0,
+        bundles: 0,
         s: 0,
         revealed: 0,
     }
@@ -196,7 +196,7 @@ pub fn over_trace(
     let s = served.s;
     LayersTotals {
         refusal: 0,
-        evictions: served.joins,
+        bundles: served.joins,
         s,
         revealed: questions::singles_at_top(numbers, s),
     }

@@ -4,8 +4,8 @@ ghost use mathlib.Core.Path.{_≡_};
 ghost use lib.ListN.{length, replicate};
 ghost use Rattle.paging.specs.Rows.{rowsOf, unused};
 ghost use Rattle.table.specs.Serving.{Sound};
-ghost use Rattle.layers.specs.Over.{ServedTo, earlyRefusal};
-ghost use Rattle.layers.specs.Traces.{allUnused};
+ghost use Rattle.layers.specs.Over.{ServedTo};
+ghost use Rattle.layers.specs.Traces.{allUnused, earlyRefusal};
 
 // What the requests of a trace came to: whether the table was too small on the way, s and the bundles counted.
 pub(crate) struct Served {
@@ -94,12 +94,9 @@ fn all_unused(pages: &[u32], numbers: &[u32]) -> bool
 pub(crate) fn early_refusal(k: u32, a: u32, trace: &[u32], pages: &[u32], numbers: &[u32]) -> u32
     ensures { λ r. ⌜ r ≡ earlyRefusal k a (now (trace .entry)) (now (pages .entry)) (now (numbers .entry)) 0 ⌝ }
 {
-    let sizes = paging::Sizes { k, a }.refusal();
-    if sizes != 0 {
-        return sizes;
-    }
-    if trace.len() > paging::Trace::LONGEST {
-        return 3;
+    let no = paging::Sizes { k, a }.trace_refusal(trace);
+    if no != 0 {
+        return no;
     }
     if pages.len() == numbers.len() {
         if all_unused(pages, numbers) {

@@ -26,7 +26,6 @@ module _ (run : Run) (count : ℕ) (cache evicted : List ℕ) where
   unfolding requestRefusal wellFormed
   ready-of e =
       let sizes = sizes-rest (run .k) (run .a) _ e in
-      let sized = sizes .0 in
       let eight = zero-pass (ltb (length cache) (run .k) or ltb (length evicted) (run .a)) 8 _ (λ z. omega arith) (sizes .1) in
       let nine = zero-pass (not (wellFormed run count cache)) 9 _ (λ z. omega arith) (eight .1) in
       let twelve = zero-pass (eqb (run .requests) 4294967295) 12 0 (λ z. omega arith) (nine .1) in
@@ -38,9 +37,7 @@ module _ (run : Run) (count : ℕ) (cache evicted : List ℕ) where
       let w3 = and-l _ _ (and-r _ _ (and-r _ _ well)) in
       let w4 = and-r _ _ (and-r _ _ (and-r _ _ well)) in
       record {
-        a-least = sized .a-low;
-        a-most = sized .a-high;
-        k-most = sized .k-high;
+        sizes = sizes .0;
         cache-room = omega tests;
         evicted-room = omega tests;
         count-most = omega tests;
@@ -128,12 +125,7 @@ module _ (k a : ℕ) (trace : List ℕ) where
   pub trace-ready : traceRefusal k a trace 0 ≡ 0 → TraceReady k a trace
   trace-ready e =
       let right = trace-right k a trace 0 e in
-      record {
-        a-least = right .0 .a-low;
-        a-most = right .0 .a-high;
-        k-most = right .0 .k-high;
-        trace-most = right .1;
-      }
+      record { sizes = right .0; trace-most = right .1 }
 
   pub totals-refused : (n : ℕ) → n ≡ traceRefusal k a trace 0 → (n ≡ 0 → ⊥)
       → record { refusal = n; bundles = 0; loads = 0 } ≡ totalsOf k a trace

@@ -91,9 +91,7 @@ stands-empty k a cache least most k-most =
       record-is = refl;
       held-is = refl;
       count-is = refl;
-      a-least = least;
-      a-most = most;
-      k-most = k-most;
+      sizes = record { a-low = least; a-high = most; k-high = k-most };
       count-most = omega arith;
       once = refl;
       evictions-most = omega arith;
@@ -115,7 +113,7 @@ module _ {k a : ℕ} {trace : List ℕ} {run : Run} {count : ℕ} {cache : List 
   stands-refusal evicted =
       let w = well run count cache evicted (rw k-is (s .count-most)) (s .evictions-most) (s .loads-most) (s .once) in
       let z : SizesRight (run .k) (run .a) =
-      rw (k-is, a-is) (record { a-low = s .a-least; a-high = s .a-most; k-high = s .k-most }) in
+      rw (k-is, a-is) (s .sizes) in
       sizes-taken (run .k) (run .a) z _ ∙ rw (w, s .record-is) refl
 
   -- An accepted request
@@ -138,11 +136,9 @@ module _ {k a : ℕ} {trace : List ℕ} {run : Run} {count : ℕ} {cache : List 
             ∙ rw (length-append trace (p ∷ []), counts-snoc k a p trace isLoad, counts-snoc k a p trace isBundled) refl);
         held-is = held ∙ after ∙ sym (holds-snoc k a p trace);
         count-is = ap length (after ∙ sym (holds-snoc k a p trace));
-        a-least = s .a-least;
-        a-most = s .a-most;
-        k-most = s .k-most;
-        count-most = rw after (serve-most k a p H d n (s .a-least) (s .a-most));
-        once = rw (held, after) (serve-once k a p H d n (s .a-least) (s .a-most));
+        sizes = s .sizes;
+        count-most = rw after (serve-most k a p H d n (s .sizes .a-low) (s .sizes .a-high));
+        once = rw (held, after) (serve-once k a p H d n (s .sizes .a-low) (s .sizes .a-high));
         evictions-most = omega (arith, s .evictions-most, bundle-loads (kindIn run count cache p));
         loads-most = omega (arith, s .loads-most, loads-one (kindIn run count cache p));
       }
@@ -167,9 +163,7 @@ module _ {k a : ℕ} {trace : List ℕ} {run : Run} {count : ℕ} {cache : List 
   pub stands-ready : (evicted : List ℕ) → k ≤ length cache → a ≤ length evicted → length trace < 4294967295 → Ready run count cache evicted
   stands-ready evicted room bundle-room more =
       record {
-        a-least = rw a-is (s .a-least);
-        a-most = rw (k-is, a-is) (s .a-most);
-        k-most = rw k-is (s .k-most);
+        sizes = rw (k-is, a-is) (s .sizes);
         cache-room = rw k-is room;
         evicted-room = rw a-is bundle-room;
         count-most = rw k-is (s .count-most);
@@ -182,7 +176,7 @@ module _ {k a : ℕ} {trace : List ℕ} {run : Run} {count : ℕ} {cache : List 
 -- the first turn of a trace
 pub stands-first : (k a : ℕ) (trace : List ℕ) (run : Run) (cache : List ℕ) → TraceReady k a trace → run ≡ emptyRun k a
     → Stands k a [] run 0 cache
-stands-first k a trace run cache t e = rw e (stands-empty k a cache (t .a-least) (t .a-most) (t .k-most))
+stands-first k a trace run cache t e = rw e (stands-empty k a cache (t .sizes .a-low) (t .sizes .a-high) (t .sizes .k-high))
 
 -- one more request of a trace
 pub stands-next : (k a : ℕ) (trace : List ℕ) (i : ℕ) (run : Run) (count : ℕ) (cache y : List ℕ) (reply : Reply)
@@ -256,8 +250,8 @@ pub totals-of-calls : (k a : ℕ) (calls : List Call) (cache : List ℕ) → tra
 totals-of-calls k a calls cache e room r =
     let ready = trace-ready k a (pagesOf calls) e in
     let S = emptyState k a cache in
-    let start = stands-empty k a cache (ready .a-least) (ready .a-most) (ready .k-most) in
+    let start = stands-empty k a cache (ready .sizes .a-low) (ready .sizes .a-high) (ready .sizes .k-high) in
     let all = calls-accepted k a calls [] S start room r (omega (arith, ready .trace-most, length-pages calls)) in
     let end : Stands k a (pagesOf calls) (afterCalls calls S .run) (afterCalls calls S .count) (afterCalls calls S .cache) =
-    rw all at (calls-from-empty k a calls cache (ready .a-least) (ready .a-most) (ready .k-most)) in
+    rw all at (calls-from-empty k a calls cache (ready .sizes .a-low) (ready .sizes .a-high) (ready .sizes .k-high)) in
     sym (totals-served k a (pagesOf calls) (afterCalls calls S .run) e (end .record-is))

@@ -5,29 +5,26 @@ use mathlib.Core.List.{List}
 use mathlib.Core.Path.{_≡_}
 use lib.ListN.{length, take}
 use Rattle.lists.specs.Pages.{distinct}
+use Rattle.paging.specs.Refusals.{SizesRight, longestTrace, fullCounter}
 use Rattle.lru.specs.declared.Run.{Run}
 
 pub record Ready (run : Run) (count : ℕ) (cache evicted : List ℕ) : Type 0 where
-  pub a-least : 1 ≤ run .a
-  pub a-most : run .a ≤ run .k
-  pub k-most : run .k ≤ 256
+  pub sizes : SizesRight (run .k) (run .a)
   pub cache-room : run .k ≤ length cache
   pub evicted-room : run .a ≤ length evicted
   pub count-most : count ≤ run .k
   pub evictions-most : run .evictions ≤ run .loads
   pub loads-most : run .loads ≤ run .requests
   pub once : distinct (take count cache) ≡ true
-  pub further : run .requests ≡ 4294967295 → ⊥
+  pub further : run .requests ≡ fullCounter → ⊥
 
 -- the counters of the record do not pass their limit with one more request
 pub record Counts (run : Run) (loads bundles : ℕ) : Type 0 where
-  pub requests-fit : run .requests < 4294967295
+  pub requests-fit : run .requests < fullCounter
   pub loads-fit : run .loads + loads < 4294967296
   pub evictions-fit : run .evictions + bundles < 4294967296
 
 -- sizes and a trace that are not refused
 pub record TraceReady (k a : ℕ) (trace : List ℕ) : Type 0 where
-  pub a-least : 1 ≤ a
-  pub a-most : a ≤ k
-  pub k-most : k ≤ 256
-  pub trace-most : length trace ≤ 65536
+  pub sizes : SizesRight k a
+  pub trace-most : length trace ≤ longestTrace

@@ -10,6 +10,7 @@ use Rattle.lists.specs.Choice.{pick, _and_}
 use Rattle.lists.specs.Pages.{distinct}
 use Rattle.paging.specs.Lru.{lruRule}
 use Rattle.paging.specs.Policy.{holds, bundleCount, loadCount}
+use Rattle.paging.specs.Refusals.{SizesRight}
 use Rattle.lru.specs.Refusing.{requestRefusal, replyOf, cacheOf}
 use Rattle.lru.specs.Serving.{emptyRun}
 use Rattle.lru.specs.declared.Run.{Run}
@@ -29,9 +30,7 @@ pub record Stands (k a : ℕ) (trace : List ℕ) (run : Run) (count : ℕ) (cach
   pub record-is : run ≡ runOver k a trace
   pub held-is : take count cache ≡ holds (lruRule a) k trace [] []
   pub count-is : count ≡ length (holds (lruRule a) k trace [] [])
-  pub a-least : 1 ≤ a
-  pub a-most : a ≤ k
-  pub k-most : k ≤ 256
+  pub sizes : SizesRight k a
   pub count-most : count ≤ k
   pub once : distinct (take count cache) ≡ true
   pub evictions-most : run .evictions ≤ run .loads

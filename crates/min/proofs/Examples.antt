@@ -8,8 +8,8 @@ use lib.Dec.{eqb}
 use lib.ListN.{length, replicate}
 use Rattle.lists.specs.Choice.{_and_, _or_}
 use Rattle.paging.specs.Min.{farther}
-use Rattle.paging.specs.Refusals.{sizesRefusal}
-use Rattle.min.specs.Answers.{traceRefusal, minSchedule, bytesRefusal, scheduleRefusal}
+use Rattle.paging.specs.Refusals.{sizesRefusal, traceRefusal}
+use Rattle.min.specs.Answers.{minSchedule, bytesRefusal, scheduleRefusal}
 
 sameBytes : List ℕ → List ℕ → Bool
 sameBytes [] [] = true

@@ -15,6 +15,7 @@ use Rattle.lists.proofs.Choice.{tests, cases}
 use Rattle.lists.proofs.Sorting.{length-sort}
 use Rattle.paging.specs.Min.{farther, minRule, bestCount}
 use Rattle.paging.specs.Policy.{Rule, Kind, hit, load, bundled, isBundled, kindOf, serve, kinds, bundles}
+use Rattle.paging.specs.Refusals.{SizesRight}
 use Rattle.paging.specs.Schedule.{ev, entriesCost}
 use Rattle.records.specs.Bytes.{evBytes, entryBytes, joined, evLength, scheduleBytes, AllWritable}
 use Rattle.records.proofs.Lengths.{length-evBytes}
@@ -95,9 +96,10 @@ schedule-long k a trace h =
     s ∙ ap (λ (m : ℕ). 6 + m) l
 
 -- read back, the schedule is the KA and MIN's bundles, with no damage; so it is for a reader that bounds n by a
-pub min-reads-back : (k a : ℕ) (trace : List ℕ) → 0 < k → k ≤ 256 → 0 < a → a ≤ k
+pub min-reads-back : (k a : ℕ) (trace : List ℕ) → SizesRight k a
     → (readSchedule a (minSchedule k a trace) 0 ≡ sizes k a 6)
     × (entriesFrom a (minSchedule k a trace) 0 ≡ record { held = bundles (minRule a) k 0 trace [] []; damage = 0 })
 unfolding minSchedule
-min-reads-back k a trace hk mk ha ma =
-    schedule-reads-back a k a (bundles (minRule a) k 0 trace [] []) hk mk ha ma (bundles-writable k a ha ma (omega arith) 0 trace [] [])
+min-reads-back k a trace right =
+    let small = right .k-high in
+    schedule-reads-back a k a (bundles (minRule a) k 0 trace [] []) right (bundles-writable k a (right .a-low) (right .a-high) (omega arith) 0 trace [] [])

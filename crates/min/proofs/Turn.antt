@@ -62,12 +62,12 @@ lefts-long k a trace lefts ready = omega (arith, ap length (ready .filled), leng
 module _ (k a t n present kind : ℕ) (trace lefts keys : List ℕ) (ready : Ready k a trace lefts) (at : Standing k t n trace keys) (more : t < length trace)
     (now-is : present ≡ keyOf (length trace - t) (getD trace t 0)) (kind-is : kind ≡ kindNumber (kindIn k present (take n keys))) where
   held-many : length (take n keys) ≡ n
-  held-many = length-take-le n keys (omega (arith, at .held, at .places, ready .small))
+  held-many = length-take-le n keys (omega (arith, at .held, at .places, ready .sizes .k-high))
 
   pub room : Room kind n a (length keys)
   room =
       rw kind-is
-      (room-for k a present n (length keys) (take n keys) held-many (at .held) (omega (arith, at .places, ready .small)) (ready .some) (ready .fits) (omega arith))
+      (room-for k a present n (length keys) (take n keys) held-many (at .held) (omega (arith, at .places, ready .sizes .k-high)) (ready .sizes .a-low) (ready .sizes .a-high) (omega arith))
 
   rest : drop t trace ≡ getD trace t 0 ∷ drop (suc t) trace
   rest = drop-cons trace t 0 more
@@ -99,7 +99,7 @@ module _ (k a t n present kind : ℕ) (trace lefts keys : List ℕ) (ready : Rea
 
     pub stands : Standing k (t + 1) m trace keys′
     stands =
-        let f = served-fits k a present next (take n keys) (omega (arith, held-many, at .held)) (ready .some) (ready .fits) (omega arith) in
+        let f = served-fits k a present next (take n keys) (omega (arith, held-many, at .held)) (ready .sizes .a-low) (ready .sizes .a-high) (omega arith) in
         let g : length (serveKeys (kindFrom kind) a next (take n keys)) ≤ k = rw (← kind-back) f in
         record {
           within = omega arith;

@@ -174,8 +174,8 @@ module _ (k a t n at from present kind : ℕ) (trace lefts keys out₀ out : Lis
   unfolding first
   bundle-room =
       record {
-        some = ready .some;
-        small = omega (arith, ready .small, ready .fits);
+        some = ready .sizes .a-low;
+        small = omega (arith, ready .sizes .k-high, ready .sizes .a-high);
         held = rooms .held;
         full = rooms .full;
         early = omega (arith, ready .short);

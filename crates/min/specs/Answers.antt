@@ -6,14 +6,10 @@ use lib.Dec.{ltb}
 use lib.ListN.{length, drop}
 use Rattle.paging.specs.Min.{minRule, bestCount, minLoads}
 use Rattle.paging.specs.Policy.{bundles}
-use Rattle.paging.specs.Refusals.{refuse, sizesRefusal}
+use Rattle.paging.specs.Refusals.{refuse, traceRefusal}
 use Rattle.records.specs.Bytes.{scheduleBytes}
 use Rattle.min.specs.declared.Counts.{Counts}
 use Rattle.min.specs.declared.Scheduled.{Scheduled}
-
--- 1 and 2 for the sizes, 3 for more than 65,536 requests, then the rest
-unfoldable pub traceRefusal : (k a : ℕ) → (trace : List ℕ) → ℕ → ℕ
-traceRefusal k a trace rest = sizesRefusal k a (refuse (ltb 65536 (length trace)) 3 rest)
 
 abbrev pub countsBy : (number k a : ℕ) → (trace : List ℕ) → Counts
 countsBy zero k a trace = record { refusal = 0; bundles = bestCount k a trace; loads = minLoads k a trace }

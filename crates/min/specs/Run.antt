@@ -6,6 +6,7 @@ use lib.ListN.{length, take, drop}
 use Rattle.lists.specs.Pages.{count}
 use Rattle.paging.specs.Min.{bestCount, minLoads}
 use Rattle.paging.specs.Policy.{isBundled, isLoad}
+use Rattle.paging.specs.Refusals.{SizesRight, longestTrace}
 use Rattle.wire.specs.Numbers.{placed}
 use Rattle.records.specs.Bytes.{evLength, entryBytes, joined}
 use Rattle.next_use.specs.Left.{leftsOf}
@@ -13,18 +14,14 @@ use Rattle.keys.specs.Keys.{kindFrom, kindsOf, bundleOf, bundlesOf}
 
 -- sizes and a trace that are not refused, with a place for each request's left
 pub record Accepted (k a : ℕ) (trace lefts : List ℕ) : Type 0 where
-  pub small : k ≤ 256
-  pub some : 0 < a
-  pub fits : a ≤ k
-  pub short : length trace ≤ 65536
+  pub sizes : SizesRight k a
+  pub short : length trace ≤ longestTrace
   pub room : length trace ≤ length lefts
 
 -- the same, with the lefts in their places
 pub record Ready (k a : ℕ) (trace lefts : List ℕ) : Type 0 where
-  pub small : k ≤ 256
-  pub some : 0 < a
-  pub fits : a ≤ k
-  pub short : length trace ≤ 65536
+  pub sizes : SizesRight k a
+  pub short : length trace ≤ longestTrace
   pub filled : take (length trace) lefts ≡ leftsOf trace
 
 -- before request t, with n keys in their places

@@ -1,6 +1,6 @@
 // Farthest next use over a lent trace, and the schedule that it writes (document 01, "MIN").
 ghost use mathlib.Core.Path.{_≡_};
-ghost use Rattle.min.specs.Answers.{traceRefusal, countsOf, scheduledOf, bytesOf};
+ghost use Rattle.min.specs.Answers.{countsOf, scheduledOf, bytesOf};
 
 mod run;
 mod write;
@@ -20,25 +20,11 @@ pub struct Scheduled {
     pub length: usize,
 }
 
-// 1 and 2 for the sizes, then 3 where the trace has too many requests, else 0.
-fn refusal(k: u32, a: u32, trace: &[u32]) -> u32
-    ensures { λ r. ⌜ r ≡ traceRefusal k a (now (trace .entry)) 0 ⌝ }
-{
-    let no = paging::Sizes { k, a }.refusal();
-    if no != 0 {
-        return no;
-    }
-    if trace.len() > paging::Trace::LONGEST {
-        return 3;
-    }
-    0
-}
-
 // The bundles and loads of farthest next use over the trace.
 pub fn count(k: u32, a: u32, trace: &[u32]) -> Counts
     ensures { λ r. ⌜ r ≡ countsOf k a (now (trace .entry)) ⌝ }
 {
-    let no = refusal(k, a, trace);
+    let no = paging::Sizes { k, a }.trace_refusal(trace);
     if no != 0 {
         return Counts {
             refusal: no,
@@ -60,7 +46,7 @@ pub fn schedule(k: u32, a: u32, trace: &[u32], out: &mut [u8]) -> Scheduled
     ensures { λ r. ⌜ (r ≡ scheduledOf k a (now (trace .entry)) (now (out .entry)))
         × (now (out .exit) ≡ bytesOf k a (now (trace .entry)) (now (out .entry))) ⌝ }
 {
-    let no = refusal(k, a, trace);
+    let no = paging::Sizes { k, a }.trace_refusal(trace);
     if no != 0 {
         return Scheduled {
             refusal: no,

@@ -1,7 +1,7 @@
 -- Laws of the lists of refusals, and of refusals 1, 2 and 3, which the calls judge first.
 use Prim.Native.Nat.{ℕ, _≤_}
 use native.Mathlib.Omega.{arith}
-use mathlib.Core.Bool.{Bool, true, false}
+use mathlib.Core.Bool.{Bool, false}
 use mathlib.Core.List.{List}
 use mathlib.Core.Path.{_≡_, refl, sym, _∙_}
 use lib.Dec.{eqb, ltb}
@@ -30,6 +30,13 @@ chain-end rest = refl
 pub chain-refuse : (b : Bool) (number : ℕ) (f : ℕ → ℕ) → (number ≡ 0 → ⊥) → Chain f → Chain (λ rest. refuse b number (f rest))
 chain-refuse b number f n chain rest =
     cases b (λ t. rw (t, ne-eqb number 0 n) refl) (λ t. rw t (chain rest))
+
+-- one list behind another
+pub chain-behind : (f g : ℕ → ℕ) → Chain f → Chain g → Chain (λ rest. f (g rest))
+chain-behind f g first second rest =
+    cases (eqb (f 0) 0)
+    (λ t. rw (first (g rest), first (g 0), t) (second rest))
+    (λ t. rw (first (g rest), first (g 0), t, t) refl)
 
 module _ (f : ℕ → ℕ) (chain : Chain f) where
   pub chain-pass : (rest : ℕ) → f 0 ≡ 0 → f rest ≡ rest

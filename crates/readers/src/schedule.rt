@@ -1,7 +1,7 @@
 // The schedule reader. At offset 0 it expects KA, elsewhere EV, PF or the end.
 ghost use mathlib.Core.Path.{_≡_};
-ghost use Rattle.reading.specs.Reading.{readSchedule};
 ghost use Rattle.reading.specs.Answers.{scheduleAnswer};
+ghost use Rattle.reading.specs.Reading.{readSchedule};
 use reading::ScheduleRecord;
 
 pub struct ScheduleReader<'a> {

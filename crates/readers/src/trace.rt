@@ -1,7 +1,7 @@
 // The trace reader. At offset 0 it expects KA, elsewhere RQ or the end.
 ghost use mathlib.Core.Path.{_≡_};
-ghost use Rattle.reading.specs.Reading.{readTrace};
 ghost use Rattle.reading.specs.Answers.{traceAnswer};
+ghost use Rattle.reading.specs.Reading.{readTrace};
 use reading::TraceRecord;
 
 pub struct TraceReader<'a> {

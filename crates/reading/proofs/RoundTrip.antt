@@ -1,15 +1,15 @@
 -- What the writers write is read back: one law for each record, and the theorems over whole files.
-use Prim.Native.Nat.{ℕ, _+_, _-_, _*_, _<_, _≤_}
+use Prim.Native.Nat.{ℕ, _+_, _-_, _*_, _<_}
 use native.Mathlib.Omega.{arith}
 use mathlib.Core.Bool.{false}
 use mathlib.Core.List.{List, [], _∷_, _++_, append-assoc, append-nil}
 use mathlib.Core.Path.{_≡_, refl, sym, ap, _∙_}
 use lib.ListN.{length, drop, length-append}
 use lib.Seq.{drop-append-seam, drop-append-add}
-use borrow.Author.Tests.{le-ltb, ne-eqb}
-use Rattle.lists.specs.Choice.{_or_}
-use Rattle.paging.specs.Refusals.{sizesRefusal}
+use borrow.Author.Tests.{le-ltb}
+use Rattle.paging.specs.Refusals.{sizesRefusal, SizesRight}
 use Rattle.paging.specs.Schedule.{Entry, ev, pf}
+use Rattle.paging.proofs.Refusals.{sizes-taken}
 use Rattle.wire.specs.Numbers.{num16, num32, bytes16, bytes32, allBytes32, nums32}
 use Rattle.wire.proofs.Numbers.{num16-bytes16, num32-bytes32, nums32-allBytes32, length-allBytes32}
 use Rattle.records.specs.Bytes.{kaBytes, rqBytes, evBytes, pfBytes, entryBytes, joined, traceBytes, scheduleBytes, evLength, Writable, AllWritable}
@@ -19,15 +19,6 @@ use Rattle.reading.specs.Files.{before, requestsFrom, entriesFrom}
 use Rattle.reading.specs.Reading.{ended, sizes, request, bundle, fetch, kaRead, rqRead, entryRead, countRefused, readTrace, readSchedule}
 use Rattle.reading.proofs.Reading.{ka-taken, rq-taken, pf-taken, ev-taken, trace-first, trace-last, trace-later, schedule-first, schedule-last, schedule-later, count-fine}
 use Rattle.reading.proofs.Walk.{requests-sizes, requests-request, requests-ended, entries-sizes, entries-bundle, entries-fetch, entries-ended}
-
--- ---- sizes in range
-
-pub sizes-right : (k a : ℕ) → 0 < k → k ≤ 256 → 0 < a → a ≤ k → sizesRefusal k a 0 ≡ 0
-unfolding sizesRefusal _or_
-sizes-right k a hk mk ha ma =
-    let k0 : k ≡ 0 → ⊥ = λ e. omega arith in
-    let a0 : a ≡ 0 → ⊥ = λ e. omega arith in
-    rw (ne-eqb k 0 k0, le-ltb 256 k mk) (rw (ne-eqb a 0 a0, le-ltb k a ma))
 
 -- ---- one law for each record. KA stands at the start, the others behind some bytes `pre`
 
@@ -160,17 +151,17 @@ entries-back bound (pf t page ∷ entries) pre w h =
 -- ---- the theorems over whole files
 
 -- a trace's bytes read as KA, the pages in order, and the end
-pub trace-reads-back : (k a : ℕ) (pages : List ℕ) → 0 < k → k ≤ 256 → 0 < a → a ≤ k
+pub trace-reads-back : (k a : ℕ) (pages : List ℕ) → SizesRight k a
     → (readTrace (traceBytes k a pages) 0 ≡ sizes k a 6) × (requestsFrom (traceBytes k a pages) 0 ≡ record { held = pages; damage = 0 })
-trace-reads-back k a pages hk mk ha ma =
-    let first : readTrace (traceBytes k a pages) 0 ≡ sizes k a 6 = trace-ka k a (joined rqBytes pages) (sizes-right k a hk mk ha ma) in
+trace-reads-back k a pages right =
+    let first : readTrace (traceBytes k a pages) 0 ≡ sizes k a 6 = trace-ka k a (joined rqBytes pages) (sizes-taken k a right 0) in
     (first, requests-sizes (traceBytes k a pages) 0 k a 6 first ∙ requests-back pages (kaBytes k a) (omega arith))
 
 -- a schedule's bytes read as KA, the same entries in the same order with the same pages, and the end
-pub schedule-reads-back : (bound k a : ℕ) (entries : List Entry) → 0 < k → k ≤ 256 → 0 < a → a ≤ k → AllWritable bound entries
+pub schedule-reads-back : (bound k a : ℕ) (entries : List Entry) → SizesRight k a → AllWritable bound entries
     → (readSchedule bound (scheduleBytes k a entries) 0 ≡ sizes k a 6)
     × (entriesFrom bound (scheduleBytes k a entries) 0 ≡ record { held = entries; damage = 0 })
-schedule-reads-back bound k a entries hk mk ha ma w =
+schedule-reads-back bound k a entries right w =
     let first : readSchedule bound (scheduleBytes k a entries) 0 ≡ sizes k a 6
-    = schedule-ka bound k a (joined entryBytes entries) (sizes-right k a hk mk ha ma) in
+    = schedule-ka bound k a (joined entryBytes entries) (sizes-taken k a right 0) in
     (first, entries-sizes bound (scheduleBytes k a entries) 0 k a 6 first ∙ entries-back bound entries (kaBytes k a) w (omega arith))

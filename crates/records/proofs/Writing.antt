@@ -11,8 +11,7 @@ use lib.ListN.{length, drop, take, getD, length-drop, length-take, length-append
 use lib.Seq.{drop-drop, take-all, take-suc}
 use borrow.Author.Tests.{lt-ltb, le-ltb, eq-eqb, ne-eqb, ltb-false}
 use Rattle.lists.specs.Choice.{pick, _or_}
-use Rattle.paging.specs.Refusals.{refuse, sizesRefusal}
-use Rattle.paging.proofs.Refusals as sizes
+use Rattle.paging.specs.Refusals.{refuse}
 use Rattle.wire.specs.Numbers.{bytes32, allBytes32, placed}
 use Rattle.wire.proofs.Numbers.{placed-join, length-placed, length-allBytes32}
 use Rattle.records.specs.Writing.{Wrote, roomRefusal, pagesRefused, wrote, outAfter, putLength, putBytes}
@@ -201,18 +200,3 @@ pub refuses : (b out : List ℕ) (at n r : ℕ) → (n ≡ 0 → ⊥) → r ≡ 
     → (_≡_ {A = Wrote} (record { refusal = n; next = 0 }) (wrote r b at)) × (out ≡ outAfter r b out at)
 refuses b out at zero r z e = absurd (z refl)
 refuses b out at (suc n) r z e = (rw e, rw e)
-
--- refusals 1 and 2, judged before others, with the number as the code has it
-pub sizes-pass : (k a n rest : ℕ) → n ≡ sizesRefusal k a 0 → n ≡ 0 → sizesRefusal k a rest ≡ rest
-sizes-pass k a n rest e z = sizes.sizes-pass k a rest (sym e ∙ z)
-
-pub sizes-refuse : (k a n rest : ℕ) → n ≡ sizesRefusal k a 0 → (n ≡ 0 → ⊥) → sizesRefusal k a rest ≡ n
-sizes-refuse k a n rest e z = sizes.sizes-fall k a rest n e z
-
--- sizes that are not refused: k is 1 to 256, a is 1 to k
-pub sizes-fine : (k a n : ℕ) → n ≡ sizesRefusal k a 0 → n ≡ 0 → (0 < k) × ((k ≤ 256) × ((0 < a) × (a ≤ k)))
-sizes-fine k a n e z =
-    let right = sizes.sizes-right k a (sym e ∙ z) in
-    let low = right .a-low in
-    let high = right .a-high in
-    (omega arith, (right .k-high, (omega arith, high)))

@@ -1,16 +1,15 @@
 -- For sizes that are right and a trace that is short enough no call refuses, and the answers are the figures.
 use Prim.Native.Nat.{ℕ, _≤_}
 use native.Mathlib.Omega.{arith}
-use mathlib.Core.Bool.{Bool, false}
+use mathlib.Core.Bool.{Bool}
 use mathlib.Core.List.{List}
 use mathlib.Core.Path.{_≡_, refl, sym, ap, _∙_}
-use lib.Dec.{ltb}
 use lib.ListN.{length, take, replicate}
-use borrow.Author.Tests.{le-ltb, eq-eqb, ne-eqb}
+use borrow.Author.Tests.{eq-eqb, ne-eqb}
 use Rattle.lists.specs.Choice.{pick}
 use Rattle.paging.specs.Layers.{noLayers, layersAfter, joinCount}
-use Rattle.paging.specs.Refusals.{sizesRefusal}
-use Rattle.paging.proofs.Refusals.{sizes-pass, sizes-taken}
+use Rattle.paging.specs.Refusals.{traceRefusal}
+use Rattle.paging.proofs.Refusals.{trace-taken}
 use Rattle.paging.proofs.Table.{tabled-top}
 use Rattle.lru.specs.Refusing as lru
 use Rattle.lru.specs.declared.Totals as lru-totals
@@ -26,25 +25,14 @@ use Rattle.report.specs.declared.Report.{Report}
 use Rattle.report.specs.declared.input.TraceRead.{TraceRead}
 
 module _ (k a : ℕ) (trace : List ℕ) (pos : 1 ≤ a) (le : a ≤ k) (small : k ≤ 256) (short : length trace ≤ 4096) where
-  sizes-are : (rest : ℕ) → sizesRefusal k a rest ≡ rest
-  sizes-are rest = sizes-pass k a rest (sizes-taken k a (record { a-low = pos; a-high = le; k-high = small }))
-
-  in-limit : ltb 65536 (length trace) ≡ false
-  in-limit = le-ltb 65536 (length trace) (omega arith)
-
-  min-takes : min.traceRefusal k a trace 0 ≡ 0
-  unfolding min.traceRefusal
-  min-takes = sizes-are _ ∙ rw in-limit refl
-
-  lru-takes : lru.traceRefusal k a trace ≡ 0
-  unfolding lru.traceRefusal
-  lru-takes = sizes-are _ ∙ rw in-limit refl
+  accepted : traceRefusal k a trace 0 ≡ 0
+  accepted = trace-taken k a trace (record { a-low = pos; a-high = le; k-high = small }) (omega arith) 0
 
   abbrev blank : List ℕ
   blank = replicate 4096 0
 
   layers-take : traceTotals k a trace blank blank
-      ≡ record { refusal = 0; evictions = joinCount k a trace; s = layersAfter k a trace noLayers .top; revealed = revealedAfter k a trace }
+      ≡ record { refusal = 0; bundles = joinCount k a trace; s = layersAfter k a trace noLayers .top; revealed = revealedAfter k a trace }
   layers-take =
       trace-counts k a trace blank blank (trace-accepted k a pos le small trace (omega arith) 4096 short)
       ∙ rw (tabled-top k a trace) refl
@@ -58,11 +46,11 @@ module _ (k a : ℕ) (trace : List ℕ) (pos : 1 ≤ a) (le : a ≤ k) (small : 
         requests = length trace;
         min = counts (m .bundles) (m .loads);
         lru = counts (l .bundles) (l .loads);
-        layers = layersCounts (y .evictions) (y .s) (y .revealed);
+        layers = layersCounts (y .bundles) (y .s) (y .revealed);
       } ≡ figures k a trace
   unfolding figures
   figures-told m l y em el ey =
-      rw (em, el, ey ∙ layers-take, min-takes, lru-takes) refl
+      rw (em, el, ey ∙ layers-take, accepted, accepted) refl
 
 -- The whole input
 

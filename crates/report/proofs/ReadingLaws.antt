@@ -10,8 +10,8 @@ use lib.ListN.{length, take, set, length-set, length-append}
 use lib.Seq.{take-suc-set, length-take-le}
 use borrow.Author.Tests.{lt-ltb, le-ltb, ne-eqb, eqb-true}
 use Rattle.lists.proofs.Choice.{cases}
+use Rattle.paging.proofs.Refusals.{sizes-right}
 use Rattle.records.specs.Marks.{markAt}
-use Rattle.records.proofs.Writing.{sizes-fine}
 use Rattle.reading.specs.Files.{File, before, only, requestsFrom}
 use Rattle.reading.specs.Reading.{refused, ended, sizes, request, readTrace, kaRead}
 use Rattle.reading.proofs.Facts.{trace-says}
@@ -113,5 +113,5 @@ module _ (limit : ℕ) (file pages : List ℕ) where
   starts-whole k a r e F =
       let first : sizes k a 6 ≡ readTrace file 0 = trace-first file 0 refl e in
       let right = trace-says file 0 (sizes k a 6) (sym first) .right in
-      let fine = sizes-fine k a 0 (sym right) refl in
-      record { told = whole-told k a r first F; few = F .few; sized = λ z. (fine .1 .1 .0, fine .1 .1 .1, fine .1 .0) }
+      let fine = sizes-right k a right in
+      record { told = whole-told k a r first F; few = F .few; sized = λ z. (fine .a-low, fine .a-high, fine .k-high) }

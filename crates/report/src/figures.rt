@@ -26,7 +26,7 @@ pub(crate) fn of(k: u32, a: u32, trace: &[u32]) -> Report
         loads: recent.loads,
     };
     let layers = LayersCounts {
-        bundles: layered.evictions,
+        bundles: layered.bundles,
         s: layered.s,
         revealed: layered.revealed,
     };

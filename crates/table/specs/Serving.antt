@@ -9,6 +9,7 @@ use Rattle.lists.specs.Choice.{pick}
 use Rattle.lists.specs.Pages.{filter}
 use Rattle.lists.specs.Sorting.{Row, sortRows}
 use Rattle.paging.specs.Layers.{LayerRule, append, join, lift, renumbered, topAfter}
+use Rattle.paging.specs.Refusals.{SizesRight}
 use Rattle.paging.specs.Rows.{rowAt, tableOf}
 use Rattle.paging.specs.Table.{aboveZero, ruleIn, rowsAfter}
 use Rattle.table.specs.declared.Change.{Change}
@@ -24,9 +25,7 @@ ruleOf Lift = lift
 
 -- sizes that were judged, and an s that they allow
 pub record Sound (k a s : ℕ) : Type 0 where
-  pub a-low : 1 ≤ a
-  pub a-high : a ≤ k
-  pub k-high : k ≤ 256
+  pub sizes : SizesRight k a
   pub s-high : s ≤ k
 
 -- a row's number after a request; the requested page's rows go

@@ -10,7 +10,7 @@ returns c =
     let a = start .args .a in
     let k = start .args .k in
     let trace = start .args .trace .now in
-    let refusal = c .before .refusal in
+    let refusal = c .before .trace-refusal in
     rw (sym (refusal .ensures)) (counts-refused (refusal .result) k a trace (c .if1 .taken))
 
 counted-requires : tie.Need-counted-requires
@@ -19,12 +19,12 @@ counted-requires c κs =
     let a = start .args .a in
     let k = start .args .k in
     let trace = start .args .trace .now in
-    let refusal = c .before .before .refusal in
+    let refusal = c .before .before .trace-refusal in
     accepted k a trace _ (sym (refusal .ensures) ∙ c .before .if1 .left) (search needs)
 
 returns-2 : tie.Need-returns-2
 returns-2 c =
-    let refusal = c .before .before .before .before .refusal in
+    let refusal = c .before .before .before .before .trace-refusal in
     let if1 = c .before .before .before .if1 in
     let counted = c .before .counted in
     rw (sym (refusal .ensures) ∙ if1 .left, counted .ensures .best, counted .ensures .loaded)

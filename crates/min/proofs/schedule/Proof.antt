@@ -11,7 +11,7 @@ returns c =
     let k = start .args .k in
     let out = start .args .out .now in
     let trace = start .args .trace .now in
-    let refusal = c .before .refusal in
+    let refusal = c .before .trace-refusal in
     schedule-refused k a (refusal .result) trace out (refusal .ensures) (c .if1 .taken)
 
 scheduled-requires : tie.Need-scheduled-requires
@@ -20,7 +20,7 @@ scheduled-requires c κs =
     let a = start .args .a in
     let k = start .args .k in
     let trace = start .args .trace .now in
-    let refusal = c .before .before .before .refusal in
+    let refusal = c .before .before .before .trace-refusal in
     let if1 = c .before .before .if1 in
     accepted k a trace _ (sym (refusal .ensures) ∙ if1 .left) (search needs)
 
@@ -31,7 +31,7 @@ returns-2 c =
     let k = start .args .k in
     let out = start .args .out .now in
     let trace = start .args .trace .now in
-    let refusal = c .before .before .before .before .before .before .before .refusal in
+    let refusal = c .before .before .before .before .before .before .before .trace-refusal in
     let if1 = c .before .before .before .before .before .before .if1 in
     let scheduled = c .before .before .before .scheduled in
     schedule-passes k a (refusal .result) trace out (scheduled .last .1 .1 .1 .1 .0) (scheduled .result) (refusal .ensures) (if1 .left) (scheduled .ensures)

@@ -10,7 +10,7 @@ pass-requires : tie.Need-pass-requires
 pass-requires c κs =
     let pre = c .before .before .before .before .before .before .before .pre in
     let fill-lefts = c .before .before .before .fill-lefts in
-    record { small = pre .small; some = pre .some; fits = pre .fits; short = pre .short; filled = fill-lefts .ensures }
+    record { sizes = pre .sizes; short = pre .short; filled = fill-lefts .ensures }
 
 returns : tie.Need-returns
 returns c =
@@ -23,7 +23,7 @@ returns c =
     let fill-lefts = c .before .before .before .before .fill-lefts in
     let pages = at-below {n = 4294967296} trace (λ i h. omega (arith, shared-slice-known .given i)) in
     record {
-      ready = record { small = pre .small; some = pre .some; fits = pre .fits; short = pre .short; filled = fill-lefts .ensures };
+      ready = record { sizes = pre .sizes; short = pre .short; filled = fill-lefts .ensures };
       best = c .pass .ensures .0
           ∙ best-same k a pages;
       loaded = c .pass .ensures .1

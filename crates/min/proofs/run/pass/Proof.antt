@@ -60,7 +60,7 @@ kind-of-requires c κs =
     let pre = c .before .before .before .before .before .before .before .before .before .pre in
     let inv = c .before .before .before .before .before .before .loop .inv in
     let key-of = c .before .before .before .key-of in
-    (omega (arith, inv .stands .held, inv .stands .places, pre .small), omega (arith, key-of .ensures))
+    (omega (arith, inv .stands .held, inv .stands .places, pre .sizes .k-high), omega (arith, key-of .ensures))
 
 slice-aggregate-serve : tie.Need-slice-aggregate-serve Inv-loop μ-loop
 slice-aggregate-serve c =

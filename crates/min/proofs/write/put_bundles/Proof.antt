@@ -70,7 +70,7 @@ kind-of-requires c κs =
     let pre = c .before .before .before .before .before .before .before .before .before .before .pre in
     let inv = c .before .before .before .before .before .before .loop .inv in
     let key-of = c .before .before .before .key-of in
-    (omega (arith, inv .stands .held, inv .stands .places, pre .0 .small), omega (arith, key-of .ensures))
+    (omega (arith, inv .stands .held, inv .stands .places, pre .0 .sizes .k-high), omega (arith, key-of .ensures))
 
 slice-aggregate-put-if-bundled : tie.Need-slice-aggregate-put-if-bundled Inv-loop μ-loop
 slice-aggregate-put-if-bundled c =

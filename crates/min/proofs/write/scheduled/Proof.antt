@@ -21,7 +21,7 @@ schedule-length-requires c κs =
     let shared-slice-known = c .before .before .before .before .before .before .shared-slice-known in
     let counted = c .before .before .counted in
     let pages = at-below {n = 4294967296} trace (λ i h. omega (arith, shared-slice-known .given i)) in
-    (omega (arith, pre .fits, pre .small), omega (arith, counted .ensures .best, best-few k a pages, pre .short))
+    (omega (arith, pre .sizes .a-high, pre .sizes .k-high), omega (arith, counted .ensures .best, best-few k a pages, pre .short))
 
 returns : tie.Need-returns
 returns c =
@@ -35,18 +35,18 @@ returns c =
     let counted = c .before .before .before .before .counted in
     let schedule-length = c .before .schedule-length in
     let pages = at-below {n = 4294967296} trace (λ i h. omega (arith, shared-slice-known .given i)) in
-    let size = schedule-length-is k a (schedule-length .result) (counted .result .bundles) trace (pre .fits) (schedule-length .ensures) (counted .ensures .best) in
+    let size = schedule-length-is k a (schedule-length .result) (counted .result .bundles) trace (pre .sizes .a-high) (schedule-length .ensures) (counted .ensures .best) in
     scheduled-few k a trace out (omega (arith, c .if1 .taken))
 
 cast-ka : tie.Need-cast-ka
 cast-ka c =
     let pre = c .before .before .before .before .before .before .before .before .before .before .pre in
-    omega (arith, pre .small)
+    omega (arith, pre .sizes .k-high)
 
 cast-ka-2 : tie.Need-cast-ka-2
 cast-ka-2 c =
     let pre = c .before .before .before .before .before .before .before .before .before .before .pre in
-    omega (arith, pre .small, pre .fits)
+    omega (arith, pre .sizes .k-high, pre .sizes .a-high)
 
 put-bundles-requires : tie.Need-put-bundles-requires
 put-bundles-requires c κs =
@@ -62,7 +62,7 @@ put-bundles-requires c κs =
     let if1 = c .before .before .before .before .before .before .if1 in
     let ka = c .before .before .before .before .ka in
     let pages = at-below {n = 4294967296} trace (λ i h. omega (arith, shared-slice-known .given i)) in
-    let size = schedule-length-is k a (schedule-length .result) (counted .result .bundles) trace (pre .fits) (schedule-length .ensures) (counted .ensures .best) in
+    let size = schedule-length-is k a (schedule-length .result) (counted .result .bundles) trace (pre .sizes .a-high) (schedule-length .ensures) (counted .ensures .best) in
     (counted .ensures .ready, evs-fit k a (ka .result) trace out (ka .last .0) (ka .last .0) pages (omega (arith, if1 .left)) (ka .ensures .0) (ka .ensures .1))
 
 returns-2 : tie.Need-returns-2
@@ -81,7 +81,7 @@ returns-2 c =
     let ka = c .before .before .before .before .before .before .before .ka in
     let put-bundles = c .before .before .put-bundles in
     let pages = at-below {n = 4294967296} trace (λ i h. omega (arith, shared-slice-known .given i)) in
-    let size = schedule-length-is k a (schedule-length .result) (counted .result .bundles) trace (pre .fits) (schedule-length .ensures) (counted .ensures .best) in
+    let size = schedule-length-is k a (schedule-length .result) (counted .result .bundles) trace (pre .sizes .a-high) (schedule-length .ensures) (counted .ensures .best) in
     scheduled-whole k a (counted .result .bundles) (counted .result .loads) (schedule-length .result) trace out (put-bundles .last .1 .1 .1 .1 .0)
     (counted .ensures .best) (counted .ensures .loaded) size (if1 .left)
     (schedule-placed k a (ka .result) trace out (ka .last .0) (put-bundles .last .1 .1 .1 .1 .0) pages (omega (arith, if1 .left)) (ka .ensures .0) (ka .ensures .1)

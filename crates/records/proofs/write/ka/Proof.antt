@@ -3,9 +3,10 @@ use native.Mathlib.Omega.{arith}
 use mathlib.Core.Bool.{false}
 use mathlib.Core.Path.{_∙_, sym, refl}
 use borrow.Author.Needs.{needs}
+use Rattle.paging.proofs.Refusals.{sizes-pass, sizes-fall, sizes-right}
 use Rattle.records.specs.Bytes.{kaBytes}
 use Rattle.records.specs.Writing.{kaRefusal}
-use Rattle.records.proofs.Writing.{refuses, room-by, room-fits, put-fits, put-writes, sizes-pass, sizes-refuse, sizes-fine}
+use Rattle.records.proofs.Writing.{refuses, room-by, room-fits, put-fits, put-writes}
 use Rattle.records.proofs.write.ka.Statement.{statement}
 use Rattle.records.proofs.write.ka.Tie as tie
 
@@ -18,7 +19,7 @@ returns c =
     let k = start .args .k in
     let out = start .args .out .now in
     refuses (kaBytes k a) out offset _ (kaRefusal k a out offset) (c .if1 .taken)
-    (sizes-refuse k a _ _ (c .before .refusal .ensures) (c .if1 .taken))
+    (sizes-fall k a _ _ (c .before .refusal .ensures) (c .if1 .taken))
 
 returns-2 : tie.Need-returns-2
 unfolding kaRefusal
@@ -31,7 +32,7 @@ returns-2 c =
     let refusal = c .before .before .before .refusal in
     let if1 = c .before .before .if1 in
     refuses (kaBytes k a) out offset _ (kaRefusal k a out offset) (c .if2 .taken)
-    (sizes-pass k a _ _ (refusal .ensures) (if1 .left) ∙
+    (sizes-pass k a _ (sym (refusal .ensures) ∙ if1 .left) ∙
     (sym (room-by (kaBytes k a) out offset _ _ refl (c .before .room .ensures))))
 
 sub-ka : tie.Need-sub-ka
@@ -67,7 +68,10 @@ cast-ka c =
     let k = start .args .k in
     let refusal = c .before .before .before .before .refusal in
     let if1 = c .before .before .before .if1 in
-    omega (arith, sizes-fine k a _ (refusal .ensures) (if1 .left))
+    let right = sizes-right k a (sym (refusal .ensures) ∙ if1 .left) in
+    let high = right .a-high in
+    let most = right .k-high in
+    omega arith
 
 cast-ka-2 : tie.Need-cast-ka-2
 cast-ka-2 c =
@@ -76,7 +80,10 @@ cast-ka-2 c =
     let k = start .args .k in
     let refusal = c .before .before .before .before .refusal in
     let if1 = c .before .before .before .if1 in
-    omega (arith, sizes-fine k a _ (refusal .ensures) (if1 .left))
+    let right = sizes-right k a (sym (refusal .ensures) ∙ if1 .left) in
+    let high = right .a-high in
+    let most = right .k-high in
+    omega arith
 
 add-t10 : tie.Need-add-t10
 add-t10 c =
@@ -113,8 +120,7 @@ returns-3 c =
     (room .ensures) in
     put-writes (kaBytes k a) out offset none (ka .result) (ka .last .0) false refl
     (ka .ensures .0) (ka .ensures .1) (kaRefusal k a out offset)
-    (sizes-pass k a _ _ (refusal .ensures)
-    (if1 .left) ∙ (sym none))
+    (sizes-pass k a _ (sym (refusal .ensures) ∙ if1 .left) ∙ (sym none))
 
 pub ka-spec : {M : Type 1} → statement M
 ka-spec =
