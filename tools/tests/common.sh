@@ -1,3 +1,4 @@
+# shellcheck shell=bash
 # Common to the tests of the tools. $made is a folder that is removed at the end.
 set -euo pipefail
 cd "$(dirname "$0")/../.."
