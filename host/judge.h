@@ -1,14 +1,19 @@
 /*
- * The judge of the alpha-paging bench for C: link target/staticlib/libjudge.a.
+ * The judge of the alpha-paging bench for C and C++: link target/staticlib/libjudge.a.
  *
- * The judge reads the bytes of a trace's file and of a schedule's file. It keeps no state and writes to
- * neither.
+ * The judge reads the bytes of a trace's file and of a schedule's file; docs/FORMAT.md says what they hold. It keeps
+ * no state, writes to neither file and allocates nothing. A call needs 260 KiB of stack, whatever the files: a thread
+ * that makes it has to have that, and a little more for itself.
  */
 #ifndef JUDGE_H
 #define JUDGE_H
 
 #include <stddef.h>
 #include <stdint.h>
+
+#ifdef __cplusplus
+extern "C" {
+#endif
 
 /* Why two files are refused. The judge answers with the number made negative. */
 enum judge_refusal {
@@ -28,5 +33,9 @@ enum judge_refusal {
  * the refusal's number made negative. An empty file may be given by any pointer that is not null.
  */
 int64_t judge(const uint8_t *trace, size_t trace_len, const uint8_t *schedule, size_t schedule_len);
+
+#ifdef __cplusplus
+}
+#endif
 
 #endif
