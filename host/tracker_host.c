@@ -80,9 +80,9 @@ static const char *words(int64_t refusal)
     case JUDGE_TOO_MANY_REQUESTS:
         return "the trace has too many requests: a program takes 4,096, the judge 65,536";
     case JUDGE_BAD_MARK:
-        return "a mark is unknown or out of place";
+        return "two bytes where a mark is due are no mark, or a mark that belongs elsewhere";
     case JUDGE_CUT_FILE:
-        return "a file ends inside a record or has none";
+        return "a file is empty, or stops before a record is complete";
     case JUDGE_BAD_SCHEDULE:
         return "a record of the schedule does not fit the trace or the pages held";
     case JUDGE_TOO_MANY_PAGES:
