@@ -2,8 +2,8 @@
  * The judge of the alpha-paging bench for C and C++: link target/staticlib/libjudge.a.
  *
  * The judge reads the bytes of a trace's file and of a schedule's file; docs/FORMAT.md says what they hold. It keeps
- * no state, writes to neither file and allocates nothing. A call needs 260 KiB of stack, whatever the files: a thread
- * that makes it has to have that, and a little more for itself.
+ * no state, writes to neither file and allocates nothing. A call needs 260 KiB of stack, whatever the files, and
+ * nothing looks whether the calling thread has that.
  */
 #ifndef JUDGE_H
 #define JUDGE_H
