@@ -17,15 +17,15 @@ extern "C" {
 
 /* Why two files are refused. The judge answers with the number made negative. */
 enum judge_refusal {
-    JUDGE_BAD_K = 1,             /* k is 0 or above 256 */
-    JUDGE_BAD_A = 2,             /* a is 0 or above k */
+    JUDGE_BAD_K = 1,             /* k is not from 1 to 256 */
+    JUDGE_BAD_A = 2,             /* a is not from 1 to k */
     JUDGE_TOO_MANY_REQUESTS = 3, /* more than 65,536 requests */
-    JUDGE_BAD_MARK = 4,          /* a mark unknown or out of place */
-    JUDGE_CUT_FILE = 5,          /* a file ends inside a record or has none */
-    JUDGE_BAD_SCHEDULE = 6,      /* the schedule's KA differs from the trace's; t falls or is not a
-                                    request; an EV follows a PF at one t; n is 0 or above a; a page
-                                    to evict is not held; a page to prefetch is held */
-    JUDGE_TOO_MANY_PAGES = 7     /* more than k pages after a request */
+    JUDGE_BAD_MARK = 4,          /* no mark where one is due, or one that belongs elsewhere */
+    JUDGE_CUT_FILE = 5,          /* a file is empty, or stops before a record is complete */
+    JUDGE_BAD_SCHEDULE = 6,      /* the two KAs differ; a t is lower than before or of no request; an
+                                    EV has no page or more than a, or stands behind a PF of its t; a
+                                    page that is to go is not held, or one that is to come is */
+    JUDGE_TOO_MANY_PAGES = 7     /* a request leaves more than k pages */
 };
 
 /*
