@@ -3,7 +3,8 @@
  *
  *     tracker_host TRACE SCHEDULE
  *
- * Exit status: 0 for a cost, 1 for a refusal, 2 for wrong usage or a file that cannot be read.
+ * Exit status: 0 for a cost, 1 for a refusal, 2 for wrong usage, a file that cannot be read, or an
+ * answer that cannot be written.
  */
 #include <errno.h>
 #include <inttypes.h>
@@ -13,7 +14,7 @@
 
 #include "judge.h"
 
-enum { STATUS_COST = 0, STATUS_REFUSED = 1, STATUS_UNREADABLE = 2 };
+enum { STATUS_COST = 0, STATUS_REFUSED = 1, STATUS_FAILED = 2 };
 
 /* A file's bytes; bytes is never null once a file has been read. */
 struct file {
@@ -68,6 +69,7 @@ static int read_file(const char *name, struct file *file)
     return ok;
 }
 
+/* The words of tools/refusals; tools/test compares them. */
 static const char *words(int64_t refusal)
 {
     switch (refusal) {
@@ -76,11 +78,11 @@ static const char *words(int64_t refusal)
     case JUDGE_BAD_A:
         return "a is 0 or above k";
     case JUDGE_TOO_MANY_REQUESTS:
-        return "the trace has more than 65536 requests";
+        return "the trace has too many requests: a program takes 4,096, the judge 65,536";
     case JUDGE_BAD_MARK:
-        return "a mark is unknown or out of place";
+        return "two bytes where a mark is due are no mark, or a mark that belongs elsewhere";
     case JUDGE_CUT_FILE:
-        return "a file ends inside a record or has none";
+        return "a file is empty, or stops before a record is complete";
     case JUDGE_BAD_SCHEDULE:
         return "a record of the schedule does not fit the trace or the pages held";
     case JUDGE_TOO_MANY_PAGES:
@@ -90,26 +92,33 @@ static const char *words(int64_t refusal)
     }
 }
 
-/* Prints the judge's answer and gives the exit status. */
+/* Prints the judge's answer and gives the exit status. An answer counts once it has left the buffer. */
 static int report(int64_t answer)
 {
+    errno = 0;
     if (answer >= 0) {
         printf("cost %" PRId64 "\n", answer);
-        return STATUS_COST;
+    } else {
+        printf("refused %" PRId64 ": %s\n", -answer, words(-answer));
     }
-    printf("refused %" PRId64 ": %s\n", -answer, words(-answer));
-    return STATUS_REFUSED;
+    int failed = ferror(stdout);
+    if (fclose(stdout) != 0 || failed) {
+        fprintf(stderr, "tracker_host: standard output: %s\n",
+                errno != 0 ? strerror(errno) : "cannot be written");
+        return STATUS_FAILED;
+    }
+    return answer >= 0 ? STATUS_COST : STATUS_REFUSED;
 }
 
 int main(int argc, char **argv)
 {
     if (argc != 3) {
         fprintf(stderr, "usage: tracker_host TRACE SCHEDULE\n");
-        return STATUS_UNREADABLE;
+        return STATUS_FAILED;
     }
     struct file trace = {NULL, 0};
     struct file schedule = {NULL, 0};
-    int status = STATUS_UNREADABLE;
+    int status = STATUS_FAILED;
     if (read_file(argv[1], &trace) && read_file(argv[2], &schedule)) {
         status = report(judge(trace.bytes, trace.len, schedule.bytes, schedule.len));
     }
