@@ -4,5 +4,6 @@ mod At
 mod Held
 mod Moved
 mod New
+mod Pages
 mod Promise
 mod Read

@@ -33,7 +33,7 @@ use denote.Triple.Entry.{Args, Vals, onEntry}
 use denote.Triple.Spec.{Meets}
 use denote.Triple.Walked.{says, Stays, stay-none, walkOf, goes-none, ends-at, walked, walk-meets}
 use Rattle.readers.proofs.Held.{Held, Fields, value, slice-type, reader-type, file-of, at-of, made-file, made-at}
-use Rattle.readers.proofs.Held.{the-type, the-laws, the-copy, the-row, own-made}
+use Rattle.readers.proofs.Held.{the-type, the-laws, the-copy, the-row, own, own-made}
 use Rattle.readers.proofs.Promise.{Promise, promising}
 
 abbrev life : Lfts 1 → NamedLft
@@ -75,7 +75,7 @@ module _ (R : Held) where
       given = value (R .fields reader)
 
       abbrev Own : Fml
-      Own = Row (κ, tt) .own reader (given ∷ [])
+      Own = own R (life (κ, tt)) reader
 
       abbrev fields : Fields
       fields = (file-of R reader, (to, tt))
@@ -107,7 +107,7 @@ module _ (R : Held) where
         follows : Holds (hasTy (reader-type R (named 0)) given) × WT given → ent 𝓤 Entry (WpFn 𝓤 H C Λ function (given ∷ vint w64 to ∷ []) Exit)
         follows typed =
             qed W (raw Entry ∷ []) ∵ enter ! C Λ function (given ∷ vint w64 to ∷ []) _ $
-            alloc1 ! (λ result. alloc1 ! (λ own. alloc1 ! (λ at. alloc1 ! (λ file. alloc0 ! $
+            alloc1 ! (λ result. alloc1 ! (λ self. alloc1 ! (λ at. alloc1 ! (λ file. alloc0 ! $
             params1 ! $ pass1 ! (init ! 4 refl typed) $ pass1 ! (init ! 2 refl (tt, record { fits = fits })) $ pass0 ! $
             assigns ! (of-opd ! (load ! (from ! (fld ! refl (stop !))) (look-in ! 4 (sub ! 0 refl (whole !))))) (from ! (stop !))
             (init ! 0 refl (tt, typed .1 .0)) $

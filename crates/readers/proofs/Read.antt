@@ -1,7 +1,7 @@
 -- What stands at a reader's offset: the walk of `TraceReader::read` and of `ScheduleReader::read`. The reader is taken apart, and a function is called on its
 -- file and its offset, of which nothing is known here but that it meets its contract. A reader may be copied: one copy of what it owns is kept for the caller,
 -- of the other the file's part goes to the call.
-use mathlib.Core.Path.{_≡_, refl}
+use mathlib.Core.Path.{refl}
 use Prim.Native.Nat.{_<_, _^_}
 use mathlib.Core.List.{[], _∷_}
 use lib.Dec.{T as Holds}
@@ -13,7 +13,7 @@ use base.Fml.{Lft, Share, Fml, ftrue, flft}
 use prog.Wp.{Heap, Calls, Loops, WpFn, Tables}
 use ghost.Atoms.{Atoms, sem}
 use contract.Lifetimes.{Lfts}
-use types.Kit.{Given, ‵, raw, _⊛_, given, ⋆, _$_, _∵_, !, qed, by, move, drop, use1, use2, split, join, learn, fsplit, fjoin, suffices, frame, done}
+use types.Kit.{Given, ‵, raw, _⊛_, ⋆, _$_, _∵_, !, qed, by, move, drop, use1, use2, split, join, fsplit, fjoin, suffices, frame, done}
 use types.Part.{whole, sub, look-in}
 use types.Run.{look, init, forget, stop, fld, from, load, of-opd, and-then, no-more, assigns, land, returns}
 use types.Run.{enter, alloc1, alloc0, params1, pass1, pass0, free1, free0}
@@ -27,17 +27,16 @@ use denote.Ref.{NamedLft}
 use denote.Signature.{Signature, plain, namedLft}
 use denote.Slice.{ShrSlice}
 use denote.Steps.{owned, peeks, nothing}
-use denote.Struct.Declared.{Declared}
 use denote.Struct.Laws as LL
-use denote.Struct.Rest.{all-own, ownAt, rest, own-open, own-out}
 use denote.Triple.Call.{calls-at}
 use denote.Triple.Clauses.{Ended, closing}
-use denote.Triple.Entry.{Args, Vals, onEntry, alive}
+use denote.Triple.Entry.{Args, Vals, onEntry}
 use denote.Triple.Spec.{Meets}
 use denote.Triple.Statement.{Contract, Triple}
 use denote.Triple.Walked.{says, Stays, stay-none, walkOf, goes-none, ends-at, walked, walk-meets}
 use Rattle.readers.proofs.Answer as Answer
-use Rattle.readers.proofs.Held.{Held, value, slice-type, slice-value, reader-type, file-of, at-of, the-type, the-laws, the-copy, the-row}
+use Rattle.readers.proofs.Held.{Held, value, slice-type, slice-value, reader-type, file-of, at-of, the-type, the-laws, the-row}
+use Rattle.readers.proofs.Held.{own, own-file, file-out}
 use Rattle.readers.proofs.Promise.{Promise, promising, promised, told}
 
 abbrev life : Lfts 1 → NamedLft
@@ -85,13 +84,7 @@ module _ (R : Held) (T : Answer.Answer) where
       bytes = slice-value (file-of R reader)
 
       abbrev Own : Fml
-      Own = Row (κ, tt) .own reader (machine ∷ [])
-
-      abbrev D : Declared
-      D = the-type R (life (κ, tt))
-
-      abbrev L : LL.Laws D
-      L = the-laws R (life (κ, tt))
+      Own = own R (life (κ, tt)) reader
 
       abbrev Entry : SProp 𝓤
       Entry = onEntry 𝓤 H A signature (κ, tt) (q, tt) (reader, tt) (machine ∷ [], tt)
@@ -116,13 +109,10 @@ module _ (R : Held) (T : Answer.Answer) where
       apart fits =
           qed W ((‵ (flft κ q) ⊛ ‵ ftrue) ∷ ‵ (owns (Row (κ, tt) ∷ []) (reader, tt) (machine ∷ [], tt)) ∷ []) ∵
           move ! (1 ∷ []) $ fsplit ! $ move ! (1 ∷ []) $ drop ! $
-          use1 W (‵ Own ⊛ ‵ Own) (LL.copy D (the-copy R (life (κ, tt))) 𝓤 H A W .twice reader (machine ∷ [])) $ split ! $
-          use1 W (given (machine ∷ [] ≡ machine ∷ []) (‵ (all-own (D .parts) L (R .fields reader)))) (own-open 𝓤 H A W D L (R .fields reader) machine) $
-          learn ! (λ _. use1 W (‵ (ownAt (D .parts) L 0 (file-of R reader)) ⊛ ‵ (rest (D .parts) L 0 (R .fields reader)))
-          (own-out 𝓤 H A W (D .parts) L 0 (R .fields reader)) $ split ! $
-          -- in front: what the file owns, what the offset owns, what the reader owns, the lifetime's token
-          move ! (1 ∷ []) $ drop ! $ nothing ! $ owned ! usize (Is usize) (uint-makes 𝓤 H A W w64) (at-of R reader) _ (refl, fits) $ fjoin ! $
-          move ! (1 ∷ 0 ∷ []) $ fjoin ! $ move ! (2 ∷ 0 ∷ []) $ use2 W (raw (Callee .pre arguments)) asked $ frame ! $ done !)
+          use1 W (‵ (own-file R (life (κ, tt)) reader) ⊛ ‵ Own) (file-out R (life (κ, tt)) 𝓤 H A W reader) $ split ! $
+          -- in front: what the file owns, what the reader owns, the lifetime's token
+          nothing ! $ owned ! usize (Is usize) (uint-makes 𝓤 H A W w64) (at-of R reader) _ (refl, fits) $ fjoin ! $
+          move ! (1 ∷ 0 ∷ []) $ fjoin ! $ move ! (2 ∷ 0 ∷ []) $ use2 W (raw (Callee .pre arguments)) asked $ frame ! $ done !
 
       leaves : (r : T .row .Denot) (u : Val) → Q (κ, tt) (file-of R reader, (at-of R reader, tt)) r
           → ent 𝓤 (⋆ 𝓤 H A (‵ (T .row .own r (u ∷ [])) ∷ (‵ (flft κ q) ⊛ ‵ ftrue) ∷ ‵ Own ∷ [])) (Exit u)
@@ -135,7 +125,7 @@ module _ (R : Held) (T : Answer.Answer) where
         follows : Holds (hasTy (reader-type R (named 0)) machine) × WT machine → ent 𝓤 Entry (WpFn 𝓤 H C Λ (function callee) (machine ∷ []) Exit)
         follows typed =
             qed W (raw Entry ∷ []) ∵ enter ! C Λ (function callee) (machine ∷ []) _ $
-            alloc1 ! (λ result. alloc1 ! (λ own. alloc1 ! (λ file. alloc1 ! (λ at. alloc0 ! $ params1 ! $ pass1 ! (init ! 4 refl typed) $ pass0 ! $
+            alloc1 ! (λ result. alloc1 ! (λ self. alloc1 ! (λ file. alloc1 ! (λ at. alloc0 ! $ params1 ! $ pass1 ! (init ! 4 refl typed) $ pass0 ! $
             assigns ! (of-opd ! (load ! (from ! (fld ! refl (stop !))) (look-in ! 4 (sub ! 0 refl (whole !))))) (from ! (stop !))
             (init ! 2 refl (tt, typed .1 .0)) $
             assigns ! (of-opd ! (load ! (from ! (fld ! refl (stop !))) (look-in ! 4 (sub ! 1 refl (whole !))))) (from ! (stop !))

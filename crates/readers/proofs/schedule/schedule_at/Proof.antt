@@ -32,8 +32,8 @@ schedule-at-spec 𝓤 H 𝓜 𝓖 𝓡 =
     let mem = 𝓜 .mem in
     let run = 𝓡 .run in
     entered 𝓤 H (tripleOf 𝓤 H A at-offset.signature (at-offset.spec 𝓤 H A mem run)) (𝓣 .C) (𝓣 .Λ) key.name code.function (code.unfolded 𝓤 H 𝓜 𝓡)
-    (At.meets reader answer new-code.name moved-code.name read-code.name _ _ _ _ (λ κs a r s t made there e.
-    At.same-place reader (λ file at. scheduleAnswer t ≡ readSchedule 256 (now file) at) (a .0) (a .1 .0) r s (made .0) (there .0) (there .1) e)
+    (At.meets reader answer new-code.name moved-code.name read-code.name _ _ _ _ (λ κs a r s t made there e i.
+    At.same-place reader (λ file at. scheduleAnswer t ≡ readSchedule 256 (now file) at) (a .0) (a .1 .0) r s (made .0) (there .0) (there .1) e i)
     𝓤 H A (givenOf 𝓤 H 𝓜 𝓖) (tablesOf 𝓤 H 𝓜 𝓣)
     (cited 𝓤 H (tripleOf 𝓤 H A new.signature (new.spec 𝓤 H A mem run)) 𝓜 𝓡 code.env
     new-code.name new-code.routine code.calls-readers·schedule·ScheduleReader·new (new-met.met 𝓤 H 𝓜 𝓖 𝓡))

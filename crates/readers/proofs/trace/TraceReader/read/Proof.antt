@@ -18,6 +18,6 @@ read-spec 𝓤 H 𝓜 𝓖 𝓡 =
     let 𝓣 = tables 𝓤 H 𝓜 𝓡 code.env in
     entered 𝓤 H (tripleOf 𝓤 H (𝓖 .A) read.signature (read.spec 𝓤 H (𝓖 .A) (𝓜 .mem) (𝓡 .run))) (𝓣 .C) (𝓣 .Λ) key.name code.function
     (code.unfolded 𝓤 H 𝓜 𝓡)
-    (Read.meets reader answer callee-code.name _ _ (λ κs a r e. e) 𝓤 H (𝓖 .A) (givenOf 𝓤 H 𝓜 𝓖) (tablesOf 𝓤 H 𝓜 𝓣)
+    (Read.meets reader answer callee-code.name _ _ (λ κs a r e i. e i) 𝓤 H (𝓖 .A) (givenOf 𝓤 H 𝓜 𝓖) (tablesOf 𝓤 H 𝓜 𝓣)
     (cited 𝓤 H (tripleOf 𝓤 H (𝓖 .A) callee.signature (callee.spec 𝓤 H (𝓖 .A) (𝓜 .mem) (𝓡 .run))) 𝓜 𝓡 code.env
     callee-code.name callee-code.routine code.calls-reading·trace (callee-met.met 𝓤 H 𝓜 𝓖 𝓡)))
