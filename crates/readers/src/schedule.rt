@@ -1,5 +1,7 @@
 // The schedule reader. At offset 0 it expects KA, elsewhere EV, PF or the end.
+ghost use Prim.Native.Nat.{_*_};
 ghost use mathlib.Core.Path.{_≡_};
+ghost use lib.ListN.{take, drop};
 ghost use Rattle.reading.specs.Answers.{scheduleAnswer};
 ghost use Rattle.reading.specs.Reading.{readSchedule};
 use reading::ScheduleRecord;
@@ -17,11 +19,18 @@ impl<'a> ScheduleReader<'a> {
         ScheduleReader { file, at: 0 }
     }
 
-    // What stands at its offset. `reading::pages` gives a bundle's pages as a part of the file.
+    // What stands at its offset. Of a bundle the answer says where its pages start and how many they are: `pages` gives them.
     pub fn read(self) -> ScheduleRecord
         ensures { λ r. ⌜ scheduleAnswer r ≡ readSchedule 256 (now (self .entry .file)) (self .entry .at) ⌝ }
     {
         reading::schedule(self.file, self.at)
+    }
+
+    // The bytes of n pages from an offset on, as a part of the file, which outlives the reader; where the file ends before, those that are there.
+    pub fn pages(self, from: usize, n: usize) -> &'a [u8]
+        ensures { λ r. ⌜ now r ≡ take (4 * n) (drop from (now (self .entry .file))) ⌝ }
+    {
+        reading::pages(self.file, from, n)
     }
 
     // The same file's reader at another offset: a record says where the next one stands.

@@ -1,0 +1,2 @@
+-- The schedule reader, as the walks have it.
+mod Held

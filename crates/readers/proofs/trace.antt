@@ -1,0 +1,2 @@
+-- The trace reader, as the walks have it.
+mod Held
