@@ -13,13 +13,13 @@ use Rattle.paging.specs.Min.{farther}
 use Rattle.paging.specs.Refusals.{sizesRefusal}
 use Rattle.paging.specs.Rows.{rowsOf}
 use Rattle.paging.specs.Schedule.{Entry, ev, pf}
-use Rattle.lru.specs.Refusing as lru
+use Rattle.lru.specs.Calls as lru
 use Rattle.lru.specs.Standing.{Call, State, afterCalls, emptyState}
 use Rattle.layers.specs.Calls.{stateRefusal, requestRefusal, requestReply, pagesNext, numbersNext}
 use Rattle.layers.specs.Formed as formed
 use Rattle.layers.specs.Questions.{Verdict, refusedWith, possibleSet, countDiffers, broken, verdict, possibleRefusal, layersIn}
 use Rattle.layers.specs.Traces.{traceTotals, pagesOver, numbersOver, overRefusal}
-use Rattle.min.specs.Answers as min
+use Rattle.min.specs.Calls as min
 use Rattle.demands.specs.Demand3.{minEntries}
 use Rattle.demands.specs.LayersCalls.{LayersCall, request, LayersState, layersStart, layersAfterCalls}
 

@@ -15,7 +15,7 @@ use Rattle.lru.specs.declared.Run.{Run}
 use Rattle.lru.proofs.Steps as lru
 use Rattle.layers.specs.declared.LayersRun.{LayersRun}
 use Rattle.layers.proofs.Steps.{yes-exactly}
-use Rattle.min.specs.Answers.{bytesRefusal, scheduleRefusal, minSchedule}
+use Rattle.min.specs.Calls.{bytesRefusal, scheduleRefusal, minSchedule}
 use Rattle.judging.specs.Answer.{cost}
 use Rattle.judging.specs.Files.{judged}
 use Rattle.judging.proofs.ExactFiles.{sound, complete}

@@ -8,6 +8,7 @@ use lib.ListN.{length, take}
 use Rattle.lists.specs.Pages.{distinct}
 use Rattle.paging.specs.Min.{minRule, bestCount}
 use Rattle.paging.specs.Policy.{bundles}
+use Rattle.paging.specs.Refusals.{largestK}
 use Rattle.paging.specs.Schedule.{Entry, serves, entriesCost}
 use Rattle.theory.specs.Factor.{ceilDiv}
 use Rattle.theory.specs.Possible.{CanHold}
@@ -17,7 +18,7 @@ use Rattle.lru.specs.Standing.{Call, afterCalls, acceptedPages, emptyState}
 use Rattle.layers.specs.Questions.{PossibleTold}
 use Rattle.layers.specs.declared.PossibleAnswer.{PossibleAnswer}
 use Rattle.layers.specs.declared.PossibleAnswer.the-variants.{Yes}
-use Rattle.min.specs.Answers.{scheduleRefusal, scheduledOf, bytesOf}
+use Rattle.min.specs.Calls.{scheduleRefusal, scheduledOf, bytesOf}
 use Rattle.judging.specs.Answer.{cost}
 use Rattle.judging.specs.Files.{judged}
 use Rattle.judging.specs.LegalFiles.{LegalFiles}
@@ -58,7 +59,7 @@ pub record Compares (k a : ℕ) : Type 0 where
 
 -- the whole demand: the comparisons for every k from 1 to 256 and a from 1 to k, and the judge on any two files
 pub record Demand3 : Type 0 where
-  pub compares : (k a : ℕ) → 1 ≤ a → a ≤ k → k ≤ 256 → Compares k a
+  pub compares : (k a : ℕ) → 1 ≤ a → a ≤ k → k ≤ largestK → Compares k a
   -- "two files for which the judge answers a cost are a trace and a legal schedule of it with that cost"
   pub judge-answers-a-legal-cost : (trace schedule : List ℕ) → Bytes trace → Bytes schedule → (bundles : ℕ)
       → judged trace schedule ≡ cost bundles → LegalFiles trace schedule bundles

@@ -4,7 +4,7 @@ use native.Mathlib.Omega.{arith}
 use mathlib.Core.List.{List}
 use mathlib.Core.Path.{_≡_, sym, ap, _∙_}
 use lib.ListN.{length, drop, length-append}
-use Rattle.min.specs.Answers.{minSchedule, scheduledBy, bytesBy, scheduledOf, bytesOf, scheduleRefusal}
+use Rattle.min.specs.Calls.{minSchedule, scheduledBy, bytesBy, scheduledOf, bytesOf, scheduleRefusal}
 use Rattle.min.specs.declared.Scheduled.{Scheduled}
 
 within-by : (number k a : ℕ) (trace out : List ℕ) → length (bytesBy number k a trace out) ≡ length out

@@ -1,6 +1,6 @@
 // Single requests. The record's fields are handed over one by one; its new fields are not handed back, but for what is answered.
 ghost use mathlib.Core.Path.{_≡_};
-ghost use Rattle.lru.specs.Refusing.{replyOf, cacheOf, evictedOf};
+ghost use Rattle.lru.specs.Calls.{replyOf, cacheOf, evictedOf};
 ghost use Rattle.layers.specs.Calls.{requestReply, pagesNext, numbersNext};
 ghost use Rattle.exports.specs.Runs.{lruRun, layersRun};
 ghost use Rattle.exports.specs.Signed.{signed};

@@ -1,8 +1,8 @@
 // Whole traces: farthest next use, least recent use and the layers.
 ghost use mathlib.Core.Path.{_≡_};
-ghost use Rattle.lru.specs.Refusing.{totalsOf};
+ghost use Rattle.lru.specs.Calls.{totalsOf};
 ghost use Rattle.layers.specs.Traces.{traceTotals, pagesOver, numbersOver};
-ghost use Rattle.min.specs.Answers.{countsOf, scheduledOf, bytesOf};
+ghost use Rattle.min.specs.Calls.{countsOf, scheduledOf, bytesOf};
 ghost use Rattle.exports.specs.Signed.{signed};
 use crate::signed::number;
 

@@ -16,15 +16,15 @@ use Rattle.lists.proofs.Pages.{mem-append-l, mem-append-r}
 use Rattle.paging.specs.Schedule.{Entry, ev, pf, timeOf, heldInTurn}
 use Rattle.wire.specs.Numbers.{num32}
 use Rattle.reading.specs.Files.{requestsFrom}
-use Rattle.judge.specs.Fetches.{fetchedPages}
 use Rattle.judging.specs.Judging.{Standing, Step, on, stop, closing, opened, acted, arrived, stepped}
-use Rattle.judge.specs.Places.{standing, Sound, SoundAt, SoundStep, stepOf, closingOf, Cursor, Moved}
+use Rattle.judging.proofs.Exact.{closing-length}
 use Rattle.judge.specs.declared.closing.Closing as closings
 use Rattle.judge.specs.declared.closing.Closing.the-variants.{Open, Overfull}
 use Rattle.judge.specs.declared.entries.Place.{Place}
 use Rattle.judge.specs.declared.entries.Step as steps
 use Rattle.judge.specs.declared.entries.Step.the-variants.{On, Stop}
-use Rattle.judging.proofs.Exact.{closing-length}
+use Rattle.judge.specs.inner.Fetches.{fetchedPages}
+use Rattle.judge.specs.inner.Places.{standing, Sound, SoundAt, SoundStep, stepOf, closingOf, Cursor, Moved}
 use Rattle.judge.proofs.FetchLaws.{fetched-snoc}
 
 -- The way to a request

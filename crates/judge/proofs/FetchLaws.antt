@@ -12,7 +12,7 @@ use borrow.Author.Tests.{eq-eqb, ne-eqb}
 use Rattle.lists.specs.Choice.{_or_}
 use Rattle.lists.specs.Pages.{mem}
 use Rattle.wire.specs.Numbers.{num32}
-use Rattle.judge.specs.Fetches.{fetchedPages}
+use Rattle.judge.specs.inner.Fetches.{fetchedPages}
 
 -- the first of them, and the rest
 pub first-fetch : (s : List ℕ) (at left : ℕ) → 0 < left → fetchedPages s at left ≡ num32 (drop (at + 6) s) ∷ fetchedPages s (at + 10) (left - 1)

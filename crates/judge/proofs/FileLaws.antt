@@ -9,7 +9,7 @@ use lib.ListN.{length}
 use borrow.Author.Tests.{ne-eqb, eq-eqb, lt-ltb, le-ltb}
 use Rattle.lists.specs.Choice.{_or_, _and_}
 use Rattle.lists.proofs.Choice.{cases, tests, or-none-r}
-use Rattle.paging.specs.Refusals.{sizesRefusal}
+use Rattle.paging.specs.Refusals.{sizesRefusal, longestTrace}
 use Rattle.reading.specs.Answers.{traceAnswer, scheduleAnswer}
 use Rattle.reading.specs.Files.{File, requestsFrom, before}
 use Rattle.reading.specs.Reading.{readTrace, readSchedule}
@@ -21,12 +21,12 @@ use Rattle.reading.specs.declared.TraceRecord.the-variants as traced
 use Rattle.reading.proofs.Facts.{trace-says, schedule-says, KaAt, RqAt}
 use Rattle.reading.proofs.Walk.{requests-refused, requests-ended, requests-request}
 use Rattle.judging.specs.Answer.{Answer, refused}
-use Rattle.judging.specs.Files.{behindRequests, longest, scheduleJudged, judged}
-use Rattle.judge.specs.Places.{Sound}
-use Rattle.judge.specs.Verdicts.{placeAnswer, counts, requests, barred, countedIn}
+use Rattle.judging.specs.Files.{behindRequests, scheduleJudged, judged}
 use Rattle.judge.specs.declared.entries.Place.{Place}
 use Rattle.judge.specs.declared.files.Counted.{Counted}
 use Rattle.judge.specs.declared.files.Counted.the-variants as counted
+use Rattle.judge.specs.inner.Places.{Sound}
+use Rattle.judge.specs.inner.Verdicts.{placeAnswer, counts, requests, barred, countedIn}
 
 -- Counting requests
 
@@ -149,7 +149,7 @@ no-count e = let z : _≡_ {A = ℕ} 0 1 = cc in omega arith
 module _ (file : File ℕ) where
   counts-barred : (x : ℕ) (go : List ℕ → Answer) → barred x ≡ counts file → refused x ≡ behindRequests file go
   counts-barred x go e =
-      cases (ltb longest (length (file .held)))
+      cases (ltb longestTrace (length (file .held)))
       (λ m. let w : barred x ≡ barred 3 = rw m at e in rw m (numbers w))
       (λ m. cases (eqb (file .damage) 0)
       (λ d. let w : barred x ≡ requests (length (file .held)) = rw (m, d) at e in absurd (no-count w))
@@ -160,7 +160,7 @@ module _ (file : File ℕ) where
 
   counts-whole : (n : ℕ) → requests n ≡ counts file → (file .damage ≡ 0) × (n ≡ length (file .held))
   counts-whole n e =
-      cases (ltb longest (length (file .held)))
+      cases (ltb longestTrace (length (file .held)))
       (λ m. let w : requests n ≡ barred 3 = rw m at e in absurd (no-count (sym w)))
       (λ m. cases (eqb (file .damage) 0)
       (λ d. let w : requests n ≡ requests (length (file .held)) = rw (m, d) at e in (omega tests, same w))
@@ -171,7 +171,7 @@ module _ (file : File ℕ) where
 
   counts-go : (n : ℕ) (go : List ℕ → Answer) → requests n ≡ counts file → behindRequests file go ≡ go (file .held)
   counts-go n go e =
-      cases (ltb longest (length (file .held)))
+      cases (ltb longestTrace (length (file .held)))
       (λ m. let w : requests n ≡ barred 3 = rw m at e in absurd (no-count (sym w)))
       (λ m. rw (m, counts-whole n e .0))
 

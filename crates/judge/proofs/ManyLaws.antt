@@ -25,18 +25,18 @@ use Rattle.reading.specs.declared.ScheduleRecord.the-variants as recorded
 use Rattle.reading.proofs.Facts.{schedule-says, PfAt}
 use Rattle.reading.proofs.Walk.{entries-fetch}
 use Rattle.judging.specs.Answer.{refused}
-use Rattle.judge.specs.Fetches.{fetchedPages}
 use Rattle.judging.specs.Judging.{Standing, Step, on, stop, Closed, closed, overfull, closing, opened, acted, andThen, stepped}
-use Rattle.judge.specs.Many.{AheadIs, Ready, fetching, More, ReadOn, ReadyStep, ReadOnStep}
-use Rattle.judge.specs.Places.{standing, Sound, SoundStep}
-use Rattle.judge.specs.Verdicts.{placeAnswer}
+use Rattle.judging.proofs.Exact.{closing-length}
 use Rattle.judge.specs.declared.entries.Place.{Place}
 use Rattle.judge.specs.declared.entries.Step as steps
 use Rattle.judge.specs.declared.entries.Step.the-variants.{On, Stop}
 use Rattle.judge.specs.declared.many.Ahead.{Ahead}
 use Rattle.judge.specs.declared.many.Ahead.the-variants as ahead
+use Rattle.judge.specs.inner.Fetches.{fetchedPages}
+use Rattle.judge.specs.inner.Many.{AheadIs, FetchesReady, fetching, More, ReadOn, ReadyStep, ReadOnStep}
+use Rattle.judge.specs.inner.Places.{standing, Sound, SoundStep}
+use Rattle.judge.specs.inner.Verdicts.{placeAnswer}
 use Rattle.judge.proofs.EntryLaws.{stays}
-use Rattle.judging.proofs.Exact.{closing-length}
 use Rattle.judge.proofs.FetchLaws.{fetched-snoc}
 
 -- The record ahead
@@ -113,7 +113,7 @@ pub record Reads (a : ℕ) (schedule held : List ℕ) (p : Place) (fetches : ℕ
       → placeAnswer k a trace schedule held (fetching p fetches) ≡ placeAnswer k a trace schedule held p
 
 module _ (a : ℕ) (schedule held : List ℕ) (p : Place) where
-  pub reads-none : (marks : List ℕ) → Ready schedule held p → length marks ≡ words → AllMarked marks (fetchedPages schedule (p .from) (p .fetches))
+  pub reads-none : (marks : List ℕ) → FetchesReady schedule held p → length marks ≡ words → AllMarked marks (fetchedPages schedule (p .from) (p .fetches))
       → Reads a schedule held p (p .fetches) marks
   reads-none marks r size all = record { further = omega arith; inside = r .inside; size = size; all = all; answer = λ k trace some. refl }
 
@@ -147,7 +147,7 @@ module _ (a : ℕ) (schedule held : List ℕ) (p : Place) where
 
 -- Behind a step
 
-pub on-ready : (schedule held : List ℕ) (s : steps.Step) (p : Place) → s ≡ On p → ReadyStep schedule held s → Ready schedule held p
+pub on-ready : (schedule held : List ℕ) (s : steps.Step) (p : Place) → s ≡ On p → ReadyStep schedule held s → FetchesReady schedule held p
 on-ready schedule held s p e f = rw e at f
 
 pub on-reads : (a : ℕ) (schedule held : List ℕ) (s r : steps.Step) (p : Place) → s ≡ On p → ReadOn a schedule held p r → ReadOnStep a schedule held s r
@@ -156,7 +156,7 @@ on-reads a schedule held s r p e f = rw e f
 pub stop-reads : (a : ℕ) (schedule held : List ℕ) (s : steps.Step) (number : ℕ) → s ≡ Stop number → ReadOnStep a schedule held s (Stop number)
 stop-reads a schedule held s number e = rw e refl
 
-pub nothing-read : (a : ℕ) (schedule held : List ℕ) (p : Place) → Ready schedule held p → ReadOn a schedule held p (On p)
+pub nothing-read : (a : ℕ) (schedule held : List ℕ) (p : Place) → FetchesReady schedule held p → ReadOn a schedule held p (On p)
 nothing-read a schedule held p r =
     record { answer = λ k trace some. refl; more = record { same = refl; further = omega arith; inside = r .inside } }
 

@@ -16,11 +16,7 @@ use Rattle.reading.specs.declared.ScheduleRecord.the-variants as recorded
 use Rattle.reading.proofs.Facts.{schedule-says, EvAt, PfAt}
 use Rattle.reading.proofs.Walk.{entries-refused, entries-ended, entries-bundle, entries-fetch}
 use Rattle.judging.specs.Answer.{Answer, cost, refused}
-use Rattle.judge.specs.Fetches.{fetchedPages}
 use Rattle.judging.specs.Judging.{closing, stepped, ended}
-use Rattle.judge.specs.Many.{MoreStep, ReadOnStep}
-use Rattle.judge.specs.Places.{standing, Sound, SoundStep, stepOf, closingOf}
-use Rattle.judge.specs.Verdicts.{placeAnswer, turnOf, turnAnswer, SoundTurn, Onward, verdictAnswer, AtMost}
 use Rattle.judge.specs.declared.closing.Closing as closings
 use Rattle.judge.specs.declared.closing.Closing.the-variants.{Open, Overfull}
 use Rattle.judge.specs.declared.entries.Place.{Place}
@@ -29,6 +25,10 @@ use Rattle.judge.specs.declared.entries.Step.the-variants.{On, Stop}
 use Rattle.judge.specs.declared.run.Turn.{Turn}
 use Rattle.judge.specs.declared.run.Turn.the-variants as turn
 use Rattle.judge.specs.declared.run.Verdict.{Verdict}
+use Rattle.judge.specs.inner.Fetches.{fetchedPages}
+use Rattle.judge.specs.inner.Many.{MoreStep, ReadOnStep}
+use Rattle.judge.specs.inner.Places.{standing, Sound, SoundStep, stepOf, closingOf}
+use Rattle.judge.specs.inner.Verdicts.{placeAnswer, turnOf, turnAnswer, SoundTurn, Onward, verdictAnswer, AtMost}
 use Rattle.judge.proofs.ManyLaws.{stepped-more, more-sound}
 
 -- The end

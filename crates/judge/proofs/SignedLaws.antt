@@ -7,9 +7,9 @@ use mir.Facts.{toZ-pos, toZ-ofZ}
 use mir.Syntax.{w64}
 use mir.Val.{SFits, toZ, ofZ}
 use Rattle.judging.specs.Answer.{answerNumber}
-use Rattle.judge.specs.Verdicts.{verdictAnswer, AtMost}
 use Rattle.judge.specs.declared.run.Verdict.{Verdict}
 use Rattle.judge.specs.declared.run.Verdict.the-variants as verdict
+use Rattle.judge.specs.inner.Verdicts.{verdictAnswer, AtMost}
 
 -- a cost in range
 pub cost-fits : (v : Verdict) (n : ℕ) → AtMost 9223372036854775807 v → v ≡ verdict.Cost n → SFits w64 (pos n)

@@ -1,4 +1,1 @@
-pub mod Fetches
-pub mod Places
-pub mod Verdicts
-pub mod Many
+pub mod inner

@@ -5,7 +5,7 @@ ghost use lib.ListN.{length, drop};
 ghost use Rattle.paging.specs.Schedule.{ev, pf};
 ghost use Rattle.wire.specs.Numbers.{num32, nums32};
 ghost use Rattle.judging.specs.Judging.{arrived, stepped};
-ghost use Rattle.judge.specs.Places.{standing, stepOf, Sound, SoundStep};
+ghost use Rattle.judge.specs.inner.Places.{standing, stepOf, Sound, SoundStep};
 use crate::buffer::evict;
 use crate::buffer::has;
 use crate::closing::Closing;

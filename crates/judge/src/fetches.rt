@@ -4,7 +4,7 @@ ghost use mathlib.Core.List.{_++_};
 ghost use mathlib.Core.Path.{_≡_};
 ghost use lib.ListN.{length, take};
 ghost use Rattle.lists.specs.Pages.{mem};
-ghost use Rattle.judge.specs.Fetches.{fetchedPages};
+ghost use Rattle.judge.specs.inner.Fetches.{fetchedPages};
 
 // Whether the page is one of theirs.
 pub(crate) fn fetched(schedule: &[u8], from: usize, count: usize, page: u32) -> bool

@@ -5,7 +5,7 @@ ghost use lib.ListN.{length};
 ghost use Rattle.reading.specs.Files.{requestsFrom};
 ghost use Rattle.judging.specs.Answer.{answerNumber};
 ghost use Rattle.judging.specs.Files.{judged, scheduleJudged};
-ghost use Rattle.judge.specs.Verdicts.{verdictAnswer, countedIn, counts, AtMost};
+ghost use Rattle.judge.specs.inner.Verdicts.{verdictAnswer, countedIn, counts, AtMost};
 use crate::entries::Place;
 use crate::run::Verdict;
 use crate::run::run;

@@ -6,8 +6,8 @@ ghost use mathlib.Core.Path.{_≡_};
 ghost use lib.ListN.{length, take};
 ghost use Rattle.lists.specs.Pages.{mem};
 ghost use Rattle.repeats.specs.Bits.{words, AllMarked};
-ghost use Rattle.judge.specs.Fetches.{fetchedPages};
-ghost use Rattle.judge.specs.Many.{AheadIs, Ready, ReadOn, ReadyStep, ReadOnStep};
+ghost use Rattle.judge.specs.inner.Fetches.{fetchedPages};
+ghost use Rattle.judge.specs.inner.Many.{AheadIs, FetchesReady, ReadOn, ReadyStep, ReadOnStep};
 use crate::buffer::has;
 use crate::entries::Place;
 use crate::entries::Step;
@@ -94,7 +94,7 @@ fn known(
 
 // The PFs of the open request behind the place's own.
 fn read_on(schedule: &[u8], held: &[u32], a: u32, place: Place, marks: &mut [u32]) -> Step
-    requires { ⌜ Ready (now schedule) (now held) place × (length (now marks) ≡ words) × AllMarked (now marks) (fetchedPages (now schedule) (place .from) (place .fetches)) ⌝ }
+    requires { ⌜ FetchesReady (now schedule) (now held) place × (length (now marks) ≡ words) × AllMarked (now marks) (fetchedPages (now schedule) (place .from) (place .fetches)) ⌝ }
     ensures { λ r. ⌜ ReadOn a (now (schedule .entry)) (now (held .entry)) place r ⌝ }
 {
     let t = place.t;
@@ -126,7 +126,7 @@ fn read_on(schedule: &[u8], held: &[u32], a: u32, place: Place, marks: &mut [u32
 
 // The same with marks of its own.
 fn many(schedule: &[u8], held: &[u32], a: u32, place: Place) -> Step
-    requires { ⌜ Ready (now schedule) (now held) place ⌝ }
+    requires { ⌜ FetchesReady (now schedule) (now held) place ⌝ }
     ensures { λ r. ⌜ ReadOn a (now (schedule .entry)) (now (held .entry)) place r ⌝ }
 {
     let mut marks = [0u32; WORDS];

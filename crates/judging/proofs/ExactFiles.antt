@@ -11,7 +11,7 @@ use lib.ListN.{length, drop}
 use borrow.Author.Tests.{eq-eqb, le-ltb}
 use Rattle.lists.specs.Choice.{_and_}
 use Rattle.lists.proofs.Choice.{cases, tests, and-l, and-r, and-i}
-use Rattle.paging.specs.Refusals.{SizesRight}
+use Rattle.paging.specs.Refusals.{SizesRight, longestTrace}
 use Rattle.paging.specs.Schedule.{Entry, ev, pf, serves, entriesCost}
 use Rattle.paging.proofs.Refusals.{sizes-right}
 use Rattle.wire.specs.Numbers.{Bytes}
@@ -25,7 +25,7 @@ use Rattle.reading.proofs.Facts.{trace-says, schedule-facts, ScheduleFacts}
 use Rattle.reading.proofs.RoundTrip.{trace-reads-back, schedule-reads-back}
 use Rattle.reading.proofs.Walk.{requests-sizes, entries-sizes}
 use Rattle.judging.specs.Answer.{Answer, cost, refused}
-use Rattle.judging.specs.Files.{behindKa, behindRequests, longest, scheduleJudged, judged}
+use Rattle.judging.specs.Files.{behindKa, behindRequests, scheduleJudged, judged}
 use Rattle.judging.specs.Judging.{judgedFrom, standsFirst}
 use Rattle.judging.specs.LegalFiles.{LegalFiles}
 use Rattle.judging.proofs.Exact.{sized, sizedEntry, no-cost, no-damage, exact}
@@ -77,7 +77,7 @@ behind-ka (reading.fetch t page next) go c e = absurd (no-cost e)
 behind-requests : (file : File ℕ) (go : List ℕ → Answer) (c : ℕ) → behindRequests file go ≡ cost c
     → (length (file .held) ≤ 65536) × (file .damage ≡ 0) × (go (file .held) ≡ cost c)
 behind-requests file go c e =
-    cases (ltb longest (length (file .held)))
+    cases (ltb longestTrace (length (file .held)))
     (λ m. let w : refused 3 ≡ cost c = rw m at e in absurd (no-cost w))
     (λ m. cases (eqb (file .damage) 0)
     (λ d. (omega tests, omega tests, rw (m, d) at e))
@@ -162,7 +162,7 @@ module _ (trace schedule : List ℕ) (c : ℕ) where
       let r = trace-reads-back k a (f .pages) (f .sizes) in
       let first : readTrace trace 0 ≡ reading.sizes k a 6 = rw (f .trace-is) (r .0) in
       let rest : requestsFrom trace 6 ≡ record { held = f .pages; damage = 0 } = sym (requests-sizes trace 0 k a 6 first) ∙ rw (f .trace-is) (r .1) in
-      let few : ltb longest (length (f .pages)) ≡ false = le-ltb 65536 (length (f .pages)) (f .few) in
+      let few : ltb longestTrace (length (f .pages)) ≡ false = le-ltb 65536 (length (f .pages)) (f .few) in
       let j = schedule-complete k a (f .pages) schedule c (f .entries) (f .sizes) (f .schedule-is) (f .legal) (f .costs) in
       rw (first, rest, few) j
 

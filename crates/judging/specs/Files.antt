@@ -5,6 +5,7 @@ use mathlib.Core.List.{List}
 use lib.Dec.{eqb, ltb}
 use lib.ListN.{length}
 use Rattle.lists.specs.Choice.{pick, _and_}
+use Rattle.paging.specs.Refusals.{longestTrace}
 use Rattle.reading.specs.Files.{File, requestsFrom, entriesFrom}
 use Rattle.reading.specs.Reading.{readTrace, readSchedule}
 use Rattle.reading.specs.Reading as reading
@@ -20,14 +21,10 @@ behindKa (reading.request page next) go = refused 4
 behindKa (reading.bundle t n from next) go = refused 4
 behindKa (reading.fetch t page next) go = refused 4
 
--- the most requests of a trace (document 01, "Sizes")
-abbrev pub longest : ℕ
-longest = 65536
-
 -- the requests behind a trace's KA. The record that passes the limit is 3 at once, whatever follows it; a damage before it comes first
 abbrev pub behindRequests : File ℕ → (List ℕ → Answer) → Answer
 behindRequests file go =
-    pick (ltb longest (length (file .held))) (refused 3)
+    pick (ltb longestTrace (length (file .held))) (refused 3)
     (pick (eqb (file .damage) 0) (go (file .held)) (refused (file .damage)))
 
 -- a schedule of this trace: its KA, which differs from the trace's (6) or not, then its entries

@@ -20,12 +20,12 @@ use Rattle.paging.proofs.Table.{numberIn-aboveZero}
 use Rattle.layers.specs.Calls.{stateRefusal}
 use Rattle.layers.specs.Formed.{noneAbove}
 use Rattle.layers.specs.Questions.{revealedReply, RevealedTold, layersIn, possibleRefusal, verdict, PossibleTold}
-use Rattle.layers.specs.Sizes.{Tallied, numbered, sumBelow, Walked}
 use Rattle.layers.specs.declared.LayersRun.{LayersRun}
 use Rattle.layers.specs.declared.PossibleAnswer.{PossibleAnswer}
 use Rattle.layers.specs.declared.PossibleAnswer.the-variants.{Yes, CountDiffers, BrokenAt, Refused}
+use Rattle.layers.specs.inner.Sizes.{Tallied, numbered, sumBelow, Walked}
 use Rattle.layers.proofs.Order.{ordered-sorted, revealed-last}
-use Rattle.layers.proofs.Refusing.{Ready, state-pass, state-fall, sound}
+use Rattle.layers.proofs.Refusing.{StateReady, state-pass, state-fall, sound}
 use Rattle.layers.proofs.WellFormed.{facts, size-times, size-numbered}
 
 -- Revealed pages: the layers from s down
@@ -92,7 +92,7 @@ unfolding revealedReply
 revealed-refused run pages numbers number e n =
     record { reply = rw (← e, ne-eqb number 0 n); places = λ z. absurd (n z) }
 
-pub revealed-told : (run : LayersRun) (pages numbers : List ℕ) (c : ℕ) → Ready run pages numbers → c ≡ revealed (run .s) (numbered numbers)
+pub revealed-told : (run : LayersRun) (pages numbers : List ℕ) (c : ℕ) → StateReady run pages numbers → c ≡ revealed (run .s) (numbered numbers)
     → RevealedTold run pages numbers (record { refusal = 0; count = c })
 unfolding revealedReply
 revealed-told run pages numbers c r told =
@@ -104,7 +104,7 @@ revealed-told run pages numbers c r told =
       places = λ z. rw e (revealed-last (run .s) (usedRows rows) (ordered-sorted rows (f .in-order)) (above-used (run .s) rows (f .none-higher)));
     }
 
-pub s-most : (run : LayersRun) (pages numbers : List ℕ) → Ready run pages numbers → run .s ≤ 256
+pub s-most : (run : LayersRun) (pages numbers : List ℕ) → StateReady run pages numbers → run .s ≤ 256
 s-most run pages numbers r = let low = sound run pages numbers r in let a = low .s-high in let b = low .sizes .k-high in omega arith
 
 -- Possible sets: the numbers of the set's pages
@@ -204,7 +204,7 @@ unfolding verdict possibleRefusal
 possible-refused run pages numbers set number e n =
     record { verdict-told = rw (state-fall run pages numbers number e n (refuse (not (distinct set)) 11 0), ne-eqb number 0 n); layer-told = λ i q. not-broken-refused number i q }
 
-module _ (run : LayersRun) (pages numbers set : List ℕ) (r : Ready run pages numbers) where
+module _ (run : LayersRun) (pages numbers set : List ℕ) (r : StateReady run pages numbers) where
   pub possible-twice : distinct set ≡ false → PossibleTold run pages numbers set (Refused 11)
   unfolding verdict possibleRefusal
   possible-twice e =

@@ -16,7 +16,7 @@ use Rattle.lists.proofs.Sorting.{row-tie}
 use Rattle.paging.specs.Rows.{pagesOf, unused, usedRows, tableOf}
 use Rattle.paging.specs.Table.{aboveZero, sizeOf}
 use Rattle.paging.proofs.Forming.{FormedRows, used-table}
-use Rattle.layers.specs.Formed.{isUnused, follows, orderedBehind, ordered, present, singleAbove, wellFormed}
+use Rattle.layers.specs.Formed.{isUnused, follows, orderedBehind, ordered, present, singleAbove, layersWellFormed}
 
 count-unused : (f : Row → Bool) (m : ℕ) → f unused ≡ false → count f (replicate m unused) ≡ 0
 count-unused f zero e = refl
@@ -73,8 +73,8 @@ single-in limit (suc i) rows h =
 
 -- a table that holds such rows is well formed
 pub formed-table : (k a requests evictions s places : ℕ) (rows : List Row) → FormedRows k a s rows → evictions ≤ requests
-    → wellFormed (record { k = k; a = a; requests = requests; evictions = evictions; s = s }) (tableOf places rows) ≡ true
-unfolding wellFormed
+    → layersWellFormed (record { k = k; a = a; requests = requests; evictions = evictions; s = s }) (tableOf places rows) ≡ true
+unfolding layersWellFormed
 formed-table k a requests evictions s places rows F le =
     let table = tableOf places rows in
     let size : (j : ℕ) → 0 < j → sizeOf j table ≡ sizeOf j rows = λ j h. count-table (λ row. eqb (row .number) j) places rows (omega tests) in

@@ -17,11 +17,11 @@ use Rattle.paging.proofs.Refusals.{zero-pass, Chain, chain-end, chain-refuse, c
 use Rattle.paging.proofs.Rows.{numbers-back, pages-back}
 use Rattle.table.specs.Serving.{Sound}
 use Rattle.layers.specs.Formed.{isUnused}
-use Rattle.layers.specs.Over.{ServedTo}
-use Rattle.layers.specs.Sizes.{numbered}
 use Rattle.layers.specs.Traces.{allUnused, traceTotals, pagesOver, numbersOver, earlyRefusal, overRefusal}
 use Rattle.layers.specs.declared.LayersTotals.{LayersTotals}
 use Rattle.layers.specs.declared.trace.Served.{Served}
+use Rattle.layers.specs.inner.Over.{ServedTo}
+use Rattle.layers.specs.inner.Sizes.{numbered}
 use Rattle.layers.proofs.Asking.{revealed-used}
 use Rattle.layers.proofs.Steps.{tabled-formed}
 

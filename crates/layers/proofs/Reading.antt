@@ -18,7 +18,7 @@ use Rattle.paging.specs.Rows.{rowAt, rowsOf, unused}
 use Rattle.paging.specs.Table.{aboveZero}
 use Rattle.paging.proofs.Rows.{rows-length, rows-get}
 use Rattle.layers.specs.Formed.{isUnused, follows, ordered, orderedBehind}
-use Rattle.layers.specs.Sizes.{Tallied, presentIn, singleIn}
+use Rattle.layers.specs.inner.Sizes.{Tallied, presentIn, singleIn}
 
 pub and-true : (a b : Bool) → a ≡ true → (a and b) ≡ b
 unfolding _and_

@@ -10,7 +10,7 @@ use borrow.Author.Tests.{eq-eqb, ne-eqb, eqb-true, leb-true, not-false}
 use Rattle.lists.specs.Pages.{bit}
 use Rattle.lists.specs.Sorting.{Row}
 use Rattle.paging.specs.Layers.{isJoin, topAfter}
-use Rattle.paging.specs.Refusals.{sizesRefusal, SizesRight}
+use Rattle.paging.specs.Refusals.{sizesRefusal, SizesRight, refuse}
 use Rattle.paging.specs.Rows.{rowsOf, numbersOf, pagesOf, usedRows, tableOf}
 use Rattle.paging.specs.Table.{ruleIn}
 use Rattle.paging.proofs.Refusals.{zero-pass, Chain, chain-end, chain-refuse, chain-behind, chain-fall, sizes-chain, sizes-pass, sizes-fall, sizes-rest, sizes-taken}
@@ -19,17 +19,17 @@ use Rattle.table.specs.Serving.{Sound, SteppedTo, ruleOf}
 use Rattle.table.specs.declared.Stepped.{Stepped}
 use Rattle.table.proofs.Serving.{used-rows, used-rule}
 use Rattle.layers.specs.Calls.{stateRefusal, requestRefusal, requestReply, pagesNext, numbersNext, refused, rowsNext}
-use Rattle.layers.specs.Formed.{wellFormed}
+use Rattle.layers.specs.Formed.{layersWellFormed}
 use Rattle.layers.specs.declared.LayersRun.{LayersRun}
 use Rattle.layers.proofs.WellFormed.{facts}
 
 -- The state
 
 -- what is known where no call on the state is refused with 1, 2, 8 or 9
-pub record Ready (run : LayersRun) (pages numbers : List ℕ) : Type 0 where
+pub record StateReady (run : LayersRun) (pages numbers : List ℕ) : Type 0 where
   pub sizes : SizesRight (run .k) (run .a)
   pub even : length pages ≡ length numbers
-  pub formed : wellFormed run (rowsOf numbers pages) ≡ true
+  pub formed : layersWellFormed run (rowsOf numbers pages) ≡ true
 
 module _ (run : LayersRun) (pages numbers : List ℕ) where
   pub state-sizes : (number : ℕ) → number ≡ sizesRefusal (run .k) (run .a) 0 → (number ≡ 0 → ⊥) → (rest : ℕ) → stateRefusal run pages numbers rest ≡ number
@@ -40,20 +40,20 @@ module _ (run : LayersRun) (pages numbers : List ℕ) where
   unfolding stateRefusal
   state-uneven e u rest = sizes-pass (run .k) (run .a) _ e ∙ rw (ne-eqb (length pages) (length numbers) u)
 
-  pub state-ill : sizesRefusal (run .k) (run .a) 0 ≡ 0 → length pages ≡ length numbers → wellFormed run (rowsOf numbers pages) ≡ false → (rest : ℕ) → stateRefusal run pages numbers rest ≡ 9
+  pub state-ill : sizesRefusal (run .k) (run .a) 0 ≡ 0 → length pages ≡ length numbers → layersWellFormed run (rowsOf numbers pages) ≡ false → (rest : ℕ) → stateRefusal run pages numbers rest ≡ 9
   unfolding stateRefusal
   state-ill e u w rest = sizes-pass (run .k) (run .a) _ e ∙ rw (eq-eqb (length pages) (length numbers) u, w)
 
-  pub state-pass : Ready run pages numbers → (rest : ℕ) → stateRefusal run pages numbers rest ≡ rest
+  pub state-pass : StateReady run pages numbers → (rest : ℕ) → stateRefusal run pages numbers rest ≡ rest
   unfolding stateRefusal
   state-pass r rest = sizes-taken (run .k) (run .a) (r .sizes) _ ∙ rw (eq-eqb (length pages) (length numbers) (r .even), r .formed)
 
-  pub state-ready : stateRefusal run pages numbers 0 ≡ 0 → Ready run pages numbers
+  pub state-ready : stateRefusal run pages numbers 0 ≡ 0 → StateReady run pages numbers
   unfolding stateRefusal
   state-ready z =
       let right = sizes-rest (run .k) (run .a) _ z in
       let first = zero-pass (not (eqb (length pages) (length numbers))) 8 _ (λ e. omega arith) (right .1) in
-      let second = zero-pass (not (wellFormed run (rowsOf numbers pages))) 9 _ (λ e. omega arith) (first .1) in
+      let second = zero-pass (not (layersWellFormed run (rowsOf numbers pages))) 9 _ (λ e. omega arith) (first .1) in
       record {
         sizes = right .0;
         even = eqb-true (length pages) (length numbers) (not-false _ (first .0));
@@ -64,7 +64,7 @@ module _ (run : LayersRun) (pages numbers : List ℕ) where
   unfolding stateRefusal
   state-chain =
       let uneven = not (eqb (length pages) (length numbers)) in
-      let ill = not (wellFormed run (rowsOf numbers pages)) in
+      let ill = not (layersWellFormed run (rowsOf numbers pages)) in
       chain-behind (sizesRefusal (run .k) (run .a)) (λ rest. refuse uneven 8 (refuse ill 9 rest)) (sizes-chain (run .k) (run .a))
       (chain-refuse uneven 8 (λ rest. refuse ill 9 rest) (λ z. omega arith) (chain-refuse ill 9 (λ rest. rest) (λ z. omega arith) chain-end))
 
@@ -73,14 +73,14 @@ module _ (run : LayersRun) (pages numbers : List ℕ) where
 
 -- A request
 
-pub sound : (run : LayersRun) (pages numbers : List ℕ) → Ready run pages numbers → Sound (run .k) (run .a) (run .s)
+pub sound : (run : LayersRun) (pages numbers : List ℕ) → StateReady run pages numbers → Sound (run .k) (run .a) (run .s)
 sound run pages numbers r =
     record {
       sizes = r .sizes;
       s-high = leb-true (run .s) (run .k) (facts run (rowsOf numbers pages) (r .formed) .s-low);
     }
 
-pub evictions-low : (run : LayersRun) (pages numbers : List ℕ) → Ready run pages numbers → run .evictions ≤ run .requests
+pub evictions-low : (run : LayersRun) (pages numbers : List ℕ) → StateReady run pages numbers → run .evictions ≤ run .requests
 evictions-low run pages numbers r = leb-true (run .evictions) (run .requests) (facts run (rowsOf numbers pages) (r .formed) .counted)
 
 module _ (run : LayersRun) (pages numbers : List ℕ) (p : ℕ) where

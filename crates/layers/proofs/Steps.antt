@@ -22,7 +22,7 @@ use Rattle.paging.proofs.Refusals.{zero-pass, sizes-taken, trace-right, trace-t
 use Rattle.paging.proofs.Rows.{rows-back}
 use Rattle.paging.proofs.Table.{tabled-map, tabled-top, tabled-joins, tabled-snoc}
 use Rattle.layers.specs.Calls.{emptyRun, stateRefusal, rowsNext, ruleNext, runNext, requestRefusal, requestReply, tableNext, pagesNext, numbersNext}
-use Rattle.layers.specs.Formed.{wellFormed, isUnused}
+use Rattle.layers.specs.Formed.{layersWellFormed, isUnused}
 use Rattle.layers.specs.Questions.{layersIn, Verdict, possibleSet, countDiffers, broken, refusedWith, verdictOf, judged, possibleRefusal, verdict, PossibleTold}
 use Rattle.layers.specs.Traces.{overflows, allUnused, traceTotals, pagesOver, numbersOver, overRefusal, earlyRefusal}
 use Rattle.layers.specs.declared.LayersRun.{LayersRun}
@@ -77,10 +77,10 @@ pub record Stands (k a : ℕ) (trace : List ℕ) (run : LayersRun) (pages number
   pub one-length : length pages ≡ length numbers
   pub table-is : rowsOf numbers pages ≡ tableOf (length pages) (tabledAfter k a trace nothingYet .rows)
   pub room : length (tabledAfter k a trace nothingYet .rows) ≤ length pages
-  pub well : wellFormed run (rowsOf numbers pages) ≡ true
+  pub well : layersWellFormed run (rowsOf numbers pages) ≡ true
 
 after-well : (k a : ℕ) → 1 ≤ a → a ≤ k → (trace : List ℕ) (places : ℕ)
-    → wellFormed (runAfter k a trace) (tableOf places (tabledAfter k a trace nothingYet .rows)) ≡ true
+    → layersWellFormed (runAfter k a trace) (tableOf places (tabledAfter k a trace nothingYet .rows)) ≡ true
 after-well k a pos le trace places =
     formed-table k a (length trace) (joinCount k a trace) (layersAfter k a trace noLayers .top) places (tabledAfter k a trace nothingYet .rows)
     (subst (λ s. FormedRows k a s (tabledAfter k a trace nothingYet .rows)) (tabled-top k a trace) (tabled-formed k a pos le trace))

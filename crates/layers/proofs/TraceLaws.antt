@@ -21,13 +21,13 @@ use Rattle.paging.specs.Table.{ruleIn, rowsAfter, sizeOf, Tabled, nothingYet, t
 use Rattle.paging.proofs.Forming.{FormedRows, no-rows-formed, request-forms, one-row-more, used-table}
 use Rattle.paging.proofs.Refusals.{trace-fall, trace-pass}
 use Rattle.paging.proofs.Rows.{rows-length, rows-get, rows-take, rows-drop, rows-append}
-use Rattle.table.specs.Filling.{Filled}
+use Rattle.table.specs.Filling.{TableFilled}
 use Rattle.table.specs.Serving.{Sound, SteppedTo, ruleOf}
 use Rattle.table.specs.declared.Stepped.{Stepped}
 use Rattle.table.proofs.Serving.{used-rows, used-rule}
 use Rattle.layers.specs.Formed.{isUnused}
-use Rattle.layers.specs.Over.{ServedTo}
 use Rattle.layers.specs.Traces.{overflows, allUnused, earlyRefusal}
+use Rattle.layers.specs.inner.Over.{ServedTo}
 
 -- what the table, s and the bundles stand for
 abbrev pub tabledIn : List Row → (s joins : ℕ) → Tabled
@@ -235,7 +235,7 @@ stepped-lists k a trace s p joins used i places m n ns ps ns′ ps′ r size len
 
 -- the prefix is filled with the used rows
 pub filled-prefix : (k a : ℕ) (trace : List ℕ) (s joins used i places m : ℕ) (ns ps : List ℕ) → length ps ≡ places → length ns ≡ length ps
-    → ServedSoFar k a trace places (rowsOf ns ps) s joins used i → m ≡ min (used + 1) (length ps) → Filled used (take m ns) (take m ps)
+    → ServedSoFar k a trace places (rowsOf ns ps) s joins used i → m ≡ min (used + 1) (length ps) → TableFilled used (take m ns) (take m ps)
 filled-prefix k a trace s joins used i places m ns ps size len Y m-is =
     let f = Y .fits in
     let n = Y .counted in

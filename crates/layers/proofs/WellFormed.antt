@@ -17,11 +17,11 @@ use Rattle.lists.proofs.Sorting.{row-eq, row-split}
 use Rattle.paging.specs.Rows.{rowsOf, pagesOf, unused, usedRows, tableOf}
 use Rattle.paging.specs.Table.{aboveZero, sizeOf}
 use Rattle.paging.proofs.Rows.{pages-back}
-use Rattle.layers.specs.Formed.{isUnused, follows, ordered, orderedBehind, present, noneAbove, singleAbove, wellFormed}
-use Rattle.layers.specs.Sizes.{timesIn, Tallied, presentIn, singleIn, numbered, sizesFormed}
+use Rattle.layers.specs.Formed.{isUnused, follows, ordered, orderedBehind, present, noneAbove, singleAbove, layersWellFormed}
 use Rattle.layers.specs.declared.LayersRun.{LayersRun}
+use Rattle.layers.specs.inner.Sizes.{timesIn, Tallied, presentIn, singleIn, numbered, sizesFormed}
 
--- the tests of wellFormed, one by one
+-- the tests of layersWellFormed, one by one
 pub record Formed (run : LayersRun) (rows : List Row) : Type 0 where
   pub counted : leb (run .evictions) (run .requests) ≡ true
   pub once : distinct (pagesOf (usedRows rows)) ≡ true
@@ -32,8 +32,8 @@ pub record Formed (run : LayersRun) (rows : List Row) : Type 0 where
   pub single-high : singleAbove (run .k - run .a) (run .s) rows ≡ true
   pub single-few : (ltb (run .k - run .a) (run .s) or singleAbove 0 (run .s) rows) ≡ true
 
-pub facts : (run : LayersRun) (rows : List Row) → wellFormed run rows ≡ true → Formed run rows
-unfolding wellFormed
+pub facts : (run : LayersRun) (rows : List Row) → layersWellFormed run rows ≡ true → Formed run rows
+unfolding layersWellFormed
 facts run rows w =
     let w1 = and-r _ _ w in
     let w2 = and-r _ _ w1 in
@@ -52,15 +52,15 @@ facts run rows w =
       single-few = and-r _ _ w6;
     }
 
-pub facts-back : (run : LayersRun) (rows : List Row) → Formed run rows → wellFormed run rows ≡ true
-unfolding wellFormed
+pub facts-back : (run : LayersRun) (rows : List Row) → Formed run rows → layersWellFormed run rows ≡ true
+unfolding layersWellFormed
 facts-back run rows f =
     and-i _ _ (f .counted) (and-i _ _ (f .once) (and-i _ _ (f .in-order) (and-i _ _ (f .all-present)
     (and-i _ _ (f .none-higher) (and-i _ _ (f .s-low) (and-i _ _ (f .single-high) (f .single-few)))))))
 
 -- a test that fails makes the state ill formed
-pub ill-formed : (run : LayersRun) (rows : List Row) (b : Bool) → b ≡ false → (Formed run rows → b ≡ true) → false ≡ wellFormed run rows
-ill-formed run rows b e f = cases (wellFormed run rows) (λ w. clash b (f (facts run rows w)) e) (λ w. sym w)
+pub ill-formed : (run : LayersRun) (rows : List Row) (b : Bool) → b ≡ false → (Formed run rows → b ≡ true) → false ≡ layersWellFormed run rows
+ill-formed run rows b e f = cases (layersWellFormed run rows) (λ w. clash b (f (facts run rows w)) e) (λ w. sym w)
 
 -- Sizes
 
@@ -127,8 +127,8 @@ module _ (run : LayersRun) (ns sizes : List ℕ) (t : Tallied ns sizes) (limit s
 
 -- the whole, where all tests but those of the sizes hold
 pub formed-sized : (run : LayersRun) (rows : List Row) → run .evictions ≤ run .requests → distinct (pagesOf (usedRows rows)) ≡ true → ordered rows ≡ true
-    → noneAbove (run .s) rows ≡ true → run .s ≤ run .k → sizesFormed run rows ≡ wellFormed run rows
-unfolding sizesFormed wellFormed _and_
+    → noneAbove (run .s) rows ≡ true → run .s ≤ run .k → sizesFormed run rows ≡ layersWellFormed run rows
+unfolding sizesFormed layersWellFormed _and_
 formed-sized run rows e d o n s = rw (le-leb (run .evictions) (run .requests) e, d, o, n, le-leb (run .s) (run .k) s)
 
 -- none above s

@@ -8,10 +8,10 @@ use Rattle.lists.specs.Choice.{pick}
 use Rattle.lists.specs.Pages.{bit}
 use Rattle.lists.specs.Sorting.{Row}
 use Rattle.paging.specs.Layers.{LayerRule, isJoin, topAfter}
-use Rattle.paging.specs.Refusals.{refuse, sizesRefusal}
+use Rattle.paging.specs.Refusals.{refuse, sizesRefusal, fullCounter}
 use Rattle.paging.specs.Rows.{rowsOf, numbersOf, pagesOf, usedRows, tableOf}
 use Rattle.paging.specs.Table.{ruleIn, rowsAfter}
-use Rattle.layers.specs.Formed.{wellFormed}
+use Rattle.layers.specs.Formed.{layersWellFormed}
 use Rattle.layers.specs.declared.LayersReply.{LayersReply}
 use Rattle.layers.specs.declared.LayersRun.{LayersRun}
 
@@ -24,7 +24,7 @@ unfoldable pub stateRefusal : LayersRun → (pages numbers : List ℕ) → ℕ �
 stateRefusal run pages numbers rest =
     sizesRefusal (run .k) (run .a)
     (refuse (not (eqb (length pages) (length numbers))) 8
-    (refuse (not (wellFormed run (rowsOf numbers pages))) 9
+    (refuse (not (layersWellFormed run (rowsOf numbers pages))) 9
     rest))
 
 -- the used rows after a request for p
@@ -49,7 +49,7 @@ runNext run p rows = record {
 unfoldable pub requestRefusal : LayersRun → (pages numbers : List ℕ) → (p : ℕ) → ℕ
 requestRefusal run pages numbers p =
     stateRefusal run pages numbers
-    (refuse (eqb (run .requests) 4294967295) 12
+    (refuse (eqb (run .requests) fullCounter) 12
     (refuse (ltb (length pages) (length (rowsNext run p (rowsOf numbers pages)))) 10
     0))
 

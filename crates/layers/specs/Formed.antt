@@ -41,8 +41,8 @@ singleAbove limit zero rows = true
 singleAbove limit (suc i) rows = (leb (suc i) limit or leb (sizeOf (suc i) rows) 1) and singleAbove limit i rows
 
 -- what document 01 asks of the record and the table
-unfoldable pub wellFormed : LayersRun → List Row → Bool
-wellFormed run rows =
+unfoldable pub layersWellFormed : LayersRun → List Row → Bool
+layersWellFormed run rows =
     leb (run .evictions) (run .requests)
     and distinct (pagesOf (usedRows rows))
     and ordered rows

@@ -7,8 +7,8 @@ ghost use Rattle.lists.specs.Choice.{_or_};
 ghost use Rattle.lists.specs.Pages.{count};
 ghost use Rattle.paging.specs.Rows.{rowAt, rowsOf};
 ghost use Rattle.paging.specs.Table.{aboveZero};
-ghost use Rattle.layers.specs.Formed.{isUnused, follows, ordered, wellFormed};
-ghost use Rattle.layers.specs.Sizes.{Tallied, presentIn, singleIn, numbered, sizesFormed};
+ghost use Rattle.layers.specs.Formed.{isUnused, follows, ordered, layersWellFormed};
+ghost use Rattle.layers.specs.inner.Sizes.{Tallied, presentIn, singleIn, numbered, sizesFormed};
 use crate::LayersRun;
 
 // The place is used, or it holds two zeros.
@@ -162,7 +162,7 @@ fn layers_sized(run: LayersRun, numbers: &[u32]) -> bool
 // Whether the record and the table are well formed, for sizes that were judged.
 pub(crate) fn well_formed(run: LayersRun, pages: &[u32], numbers: &[u32]) -> bool
     requires { ⌜ (length (now pages) ≡ length (now numbers)) × (run .a ≤ run .k) × (run .k ≤ 256) ⌝ }
-    ensures { λ r. ⌜ r ≡ wellFormed run (rowsOf (now (numbers .entry)) (now (pages .entry))) ⌝ }
+    ensures { λ r. ⌜ r ≡ layersWellFormed run (rowsOf (now (numbers .entry)) (now (pages .entry))) ⌝ }
 {
     if run.evictions > run.requests {
         return false;

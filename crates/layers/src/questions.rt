@@ -5,7 +5,7 @@ ghost use mathlib.Core.Path.{_≡_};
 ghost use lib.ListN.{length, getD};
 ghost use Rattle.paging.specs.Rows.{rowsOf};
 ghost use Rattle.paging.specs.Table.{numberIn, revealed};
-ghost use Rattle.layers.specs.Sizes.{Tallied, numbered, Walked};
+ghost use Rattle.layers.specs.inner.Sizes.{Tallied, numbered, Walked};
 use crate::PossibleAnswer;
 use crate::formed;
 

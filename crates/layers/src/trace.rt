@@ -4,8 +4,8 @@ ghost use mathlib.Core.Path.{_≡_};
 ghost use lib.ListN.{length, replicate};
 ghost use Rattle.paging.specs.Rows.{rowsOf, unused};
 ghost use Rattle.table.specs.Serving.{Sound};
-ghost use Rattle.layers.specs.Over.{ServedTo};
 ghost use Rattle.layers.specs.Traces.{allUnused, earlyRefusal};
+ghost use Rattle.layers.specs.inner.Over.{ServedTo};
 
 // What the requests of a trace came to: whether the table was too small on the way, s and the bundles counted.
 pub(crate) struct Served {

@@ -12,17 +12,17 @@ use Rattle.lists.specs.Pages.{distinct}
 use Rattle.lists.proofs.Choice.{tests, and-l, and-r, and-i, and-false-l, and-false-r, or-none-l, or-none-r}
 use Rattle.paging.specs.Refusals.{refuse, sizesRefusal, traceRefusal}
 use Rattle.paging.proofs.Refusals.{zero-pass, sizes-pass, sizes-fall, sizes-rest, trace-right}
-use Rattle.lru.specs.Ready.{Ready, TraceReady}
-use Rattle.lru.specs.Refusing.{wellFormed, requestRefusal, replyOf, cacheOf, evictedOf, totalsOf}
+use Rattle.lru.specs.Calls.{wellFormed, requestRefusal, replyOf, cacheOf, evictedOf, totalsOf}
 use Rattle.lru.specs.Serving.{emptyRun}
 use Rattle.lru.specs.Standing.{runOver}
 use Rattle.lru.specs.declared.Reply.{Reply}
 use Rattle.lru.specs.declared.Run.{Run}
+use Rattle.lru.specs.inner.Ready.{RequestReady, TraceReady}
 use Rattle.lru.proofs.Served.{Served}
 
 module _ (run : Run) (count : ℕ) (cache evicted : List ℕ) where
   -- no refusal
-  pub ready-of : requestRefusal run count cache evicted ≡ 0 → Ready run count cache evicted
+  pub ready-of : requestRefusal run count cache evicted ≡ 0 → RequestReady run count cache evicted
   unfolding requestRefusal wellFormed
   ready-of e =
       let sizes = sizes-rest (run .k) (run .a) _ e in

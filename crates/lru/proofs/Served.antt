@@ -13,12 +13,12 @@ use Rattle.lists.specs.Places.{place, movedToEnd}
 use Rattle.lists.proofs.Choice.{cases}
 use Rattle.lists.proofs.Leaves.{mem-place, length-moved, moved-toEnd}
 use Rattle.lists.proofs.Pages.{eraseAll-take}
-use Rattle.lru.specs.Cases.{foundIn}
-use Rattle.lru.specs.Ready.{Ready}
 use Rattle.lru.specs.Serving.{laid, loaded, bundleOver, countedRun, cacheServed, evictedServed, replyServed}
 use Rattle.lru.specs.declared.Reply.{Reply}
 use Rattle.lru.specs.declared.Run.{Run}
 use Rattle.lru.specs.declared.serving.Found.the-variants.{Held, Room, Full}
+use Rattle.lru.specs.inner.Cases.{foundIn}
+use Rattle.lru.specs.inner.Ready.{RequestReady}
 
 -- Finding
 
@@ -67,7 +67,7 @@ Served run count cache evicted page reply y v =
     (reply ≡ replyServed run count cache page)
     × ((y ≡ cacheServed run count cache page) × (v ≡ evictedServed run count cache evicted page))
 
-module _ (run : Run) (count : ℕ) (cache evicted : List ℕ) (page : ℕ) (ready : Ready run count cache evicted) where
+module _ (run : Run) (count : ℕ) (cache evicted : List ℕ) (page : ℕ) (ready : RequestReady run count cache evicted) where
   pub length-held : length (take count cache) ≡ count
   length-held = length-take-le count cache (omega arith)
 

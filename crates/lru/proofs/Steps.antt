@@ -20,12 +20,12 @@ use Rattle.paging.specs.Policy.{Kind, hit, load, bundled, kindOf, isLoad, isBun
 use Rattle.paging.specs.Refusals.{refuse, traceRefusal, SizesRight}
 use Rattle.paging.proofs.Refusals.{sizes-taken}
 use Rattle.paging.proofs.Runs.{holds-append, kinds-append, lru-holds-any, lru-kinds-any}
-use Rattle.lru.specs.Ready.{Ready, TraceReady}
-use Rattle.lru.specs.Refusing.{requestRefusal, replyOf, cacheOf, totalsOf}
+use Rattle.lru.specs.Calls.{requestRefusal, replyOf, cacheOf, totalsOf}
 use Rattle.lru.specs.Serving.{emptyRun, heldAfter, kindIn, runServed, cacheServed, replyServed}
 use Rattle.lru.specs.Standing.{runOver, Stands, Call, State, emptyState, accepts, afterCall, called, afterCalls, acceptedPages, pagesOf, roomy}
 use Rattle.lru.specs.declared.Reply.{Reply}
 use Rattle.lru.specs.declared.Run.{Run}
+use Rattle.lru.specs.inner.Ready.{RequestReady, TraceReady}
 use Rattle.lru.proofs.Laying.{length-laid}
 use Rattle.lru.proofs.Refusals.{ready-of, well, trace-ready, totals-served}
 
@@ -160,7 +160,7 @@ module _ {k a : ℕ} {trace : List ℕ} {run : Run} {count : ℕ} {cache : List 
       rw (e, length-laid (run .k) (heldAfter run count cache p) cache most room) (omega arith)
 
   -- a state that stands is ready for a request, where the lists have room and the counter is not full
-  pub stands-ready : (evicted : List ℕ) → k ≤ length cache → a ≤ length evicted → length trace < 4294967295 → Ready run count cache evicted
+  pub stands-ready : (evicted : List ℕ) → k ≤ length cache → a ≤ length evicted → length trace < 4294967295 → RequestReady run count cache evicted
   stands-ready evicted room bundle-room more =
       record {
         sizes = rw (k-is, a-is) (s .sizes);

@@ -1,5 +1,4 @@
 pub mod Serving
-pub mod Refusing
-pub mod Ready
+pub mod Calls
 pub mod Standing
-pub mod Cases
+pub mod inner

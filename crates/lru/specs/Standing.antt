@@ -11,7 +11,7 @@ use Rattle.lists.specs.Pages.{distinct}
 use Rattle.paging.specs.Lru.{lruRule}
 use Rattle.paging.specs.Policy.{holds, bundleCount, loadCount}
 use Rattle.paging.specs.Refusals.{SizesRight}
-use Rattle.lru.specs.Refusing.{requestRefusal, replyOf, cacheOf}
+use Rattle.lru.specs.Calls.{requestRefusal, replyOf, cacheOf}
 use Rattle.lru.specs.Serving.{emptyRun}
 use Rattle.lru.specs.declared.Run.{Run}
 

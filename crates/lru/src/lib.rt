@@ -1,7 +1,7 @@
 // Least recent use (document 01, "LRU"): the call that a tracker makes, one request at a time, on a run record by value and two
 // lent lists; and LRU over a whole trace.
 ghost use mathlib.Core.Path.{_≡_};
-ghost use Rattle.lru.specs.Refusing.{requestRefusal, replyOf, cacheOf, evictedOf, totalsOf};
+ghost use Rattle.lru.specs.Calls.{requestRefusal, replyOf, cacheOf, evictedOf, totalsOf};
 ghost use Rattle.lru.specs.Serving.{emptyRun};
 use paging::Sizes;
 

@@ -3,10 +3,10 @@ ghost use Prim.Native.Nat.{_-_, _≤_, _<_};
 ghost use mathlib.Core.Path.{_≡_};
 ghost use lib.ListN.{length, take};
 ghost use Rattle.lists.specs.Places.{movedToEnd};
-ghost use Rattle.lru.specs.Cases.{foundIn};
-ghost use Rattle.lru.specs.Ready.{Ready, Counts, TraceReady};
 ghost use Rattle.lru.specs.Serving.{laid, loaded, bundleOver, countedRun, cacheServed, evictedServed, replyServed};
 ghost use Rattle.lru.specs.Standing.{runOver};
+ghost use Rattle.lru.specs.inner.Cases.{foundIn};
+ghost use Rattle.lru.specs.inner.Ready.{RequestReady, CountersFit, TraceReady};
 use crate::Reply;
 use crate::Run;
 
@@ -19,7 +19,7 @@ pub enum Found {
 
 // One request on a state that is ready for it.
 pub(crate) fn step(run: Run, count: u32, cache: &mut [u32], evicted: &mut [u32], page: u32) -> Reply
-    requires { ⌜ Ready run count (now cache) (now evicted) ⌝ }
+    requires { ⌜ RequestReady run count (now cache) (now evicted) ⌝ }
     ensures { λ r. ⌜ (r ≡ replyServed run count (now (cache .entry)) page)
         × ((now (cache .exit) ≡ cacheServed run count (now (cache .entry)) page)
         × (now (evicted .exit) ≡ evictedServed run count (now (cache .entry)) (now (evicted .entry)) page)) ⌝ }
@@ -79,7 +79,7 @@ pub(crate) fn run_over(k: u32, a: u32, trace: &[u32]) -> Run
 
 // The record after one more request, with the loads and bundles it made.
 fn counted(run: Run, loads: u32, bundles: u32) -> Run
-    requires { ⌜ Counts run loads bundles ⌝ }
+    requires { ⌜ CountersFit run loads bundles ⌝ }
     ensures { λ r. ⌜ r ≡ countedRun run loads bundles ⌝ }
 {
     Run {

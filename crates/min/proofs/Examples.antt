@@ -9,7 +9,7 @@ use lib.ListN.{length, replicate}
 use Rattle.lists.specs.Choice.{_and_, _or_}
 use Rattle.paging.specs.Min.{farther}
 use Rattle.paging.specs.Refusals.{sizesRefusal, traceRefusal}
-use Rattle.min.specs.Answers.{minSchedule, bytesRefusal, scheduleRefusal}
+use Rattle.min.specs.Calls.{minSchedule, bytesRefusal, scheduleRefusal}
 
 sameBytes : List ℕ → List ℕ → Bool
 sameBytes [] [] = true

@@ -22,7 +22,7 @@ use Rattle.records.proofs.Lengths.{length-evBytes}
 use Rattle.reading.specs.Files.{entriesFrom}
 use Rattle.reading.specs.Reading.{sizes, readSchedule}
 use Rattle.reading.proofs.RoundTrip.{schedule-reads-back}
-use Rattle.min.specs.Answers.{minSchedule}
+use Rattle.min.specs.Calls.{minSchedule}
 
 -- a bundle is made only where k pages are held
 kind-of-cases : (P : Kind → Type 0) (k p : ℕ) (held : List ℕ) → P hit → P load → (k ≤ length held → P bundled) → P (kindOf k p held)

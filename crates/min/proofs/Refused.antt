@@ -8,10 +8,10 @@ use borrow.Author.Tests.{lt-ltb, le-ltb, eqb-false}
 use Rattle.paging.specs.Min.{bestCount, minLoads}
 use Rattle.paging.specs.Refusals.{traceRefusal}
 use Rattle.paging.proofs.Refusals.{trace-right, trace-fall, trace-pass}
-use Rattle.min.specs.Answers.{countsBy, minSchedule, bytesRefusal, scheduledBy, bytesBy, scheduledOf, bytesOf}
-use Rattle.min.specs.Run.{Accepted}
+use Rattle.min.specs.Calls.{countsBy, minSchedule, bytesRefusal, scheduledBy, bytesBy, scheduledOf, bytesOf}
 use Rattle.min.specs.declared.Counts.{Counts}
 use Rattle.min.specs.declared.Scheduled.{Scheduled}
+use Rattle.min.specs.inner.Run.{Accepted}
 
 -- where nothing is refused, the sizes are right and the trace is short enough
 pub accepted : (k a : ℕ) (trace lefts : List ℕ) → traceRefusal k a trace 0 ≡ 0 → 65536 ≤ length lefts → Accepted k a trace lefts

@@ -17,7 +17,7 @@ use Rattle.next_use.specs.Left.{left}
 use Rattle.next_use.proofs.Chains.{lefts-at, length-lefts}
 use Rattle.keys.specs.Keys.{keyOf, key, lastOf, kindIn, serveKeys, kindsOf, bundleOf, bundlesOf, kindFrom, Room}
 use Rattle.keys.proofs.Order.{left-now}
-use Rattle.min.specs.Run.{Ready, Standing, Counting}
+use Rattle.min.specs.inner.Run.{PassReady, Standing, Counting}
 
 pub kind-from : (kind : Kind) → kindFrom (kindNumber kind) ≡ kind
 kind-from hit = refl
@@ -55,11 +55,11 @@ served-fits k a x next keys h s f b =
     (λ d. omega (arith, length-insert ltb next (drop a keys), length-drop a keys))
 
 -- every request has its left
-pub lefts-long : (k a : ℕ) (trace lefts : List ℕ) → Ready k a trace lefts → length trace ≤ length lefts
+pub lefts-long : (k a : ℕ) (trace lefts : List ℕ) → PassReady k a trace lefts → length trace ≤ length lefts
 lefts-long k a trace lefts ready = omega (arith, ap length (ready .filled), length-take (length trace) lefts, length-lefts trace)
 
 -- Before request t: the keys of its page, and its kind, as the code has them
-module _ (k a t n present kind : ℕ) (trace lefts keys : List ℕ) (ready : Ready k a trace lefts) (at : Standing k t n trace keys) (more : t < length trace)
+module _ (k a t n present kind : ℕ) (trace lefts keys : List ℕ) (ready : PassReady k a trace lefts) (at : Standing k t n trace keys) (more : t < length trace)
     (now-is : present ≡ keyOf (length trace - t) (getD trace t 0)) (kind-is : kind ≡ kindNumber (kindIn k present (take n keys))) where
   held-many : length (take n keys) ≡ n
   held-many = length-take-le n keys (omega (arith, at .held, at .places, ready .sizes .k-high))

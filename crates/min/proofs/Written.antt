@@ -22,8 +22,8 @@ use Rattle.records.proofs.Lengths.{length-evBytes}
 use Rattle.records.proofs.Writing.{pages-fine}
 use Rattle.keys.specs.Keys.{keyOf, pageOf, key, kindIn, serveKeys, bundleOf, bundlesOf, kindFrom, Room}
 use Rattle.keys.proofs.Order.{Pages}
-use Rattle.min.specs.Answers.{minSchedule}
-use Rattle.min.specs.Run.{Ready, Writing, EvRoom, BundleRoom}
+use Rattle.min.specs.Calls.{minSchedule}
+use Rattle.min.specs.inner.Run.{PassReady, Writing, EvRoom, BundleRoom}
 use Rattle.min.proofs.Model.{take-map, best-same, bundles-same, kept-none}
 use Rattle.min.proofs.ReadBack.{schedule-long}
 use Rattle.min.proofs.Turn.{count-kinds, room, stands, bundles-now, bundles-turn}
@@ -153,7 +153,7 @@ writing-starts k a from trace keys out e h =
     }
 
 -- before request t, of the kind that the code has found
-module _ (k a t n at from present kind : ℕ) (trace lefts keys out₀ out : List ℕ) (ready : Ready k a trace lefts)
+module _ (k a t n at from present kind : ℕ) (trace lefts keys out₀ out : List ℕ) (ready : PassReady k a trace lefts)
     (w : Writing k a t n at from trace keys out₀ out) (more : t < length trace)
     (now-is : present ≡ keyOf (length trace - t) (getD trace t 0)) (kind-is : kind ≡ kindNumber (kindIn k present (take n keys))) where
   rooms : Room kind n a (length keys)

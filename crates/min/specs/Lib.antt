@@ -1,2 +1,2 @@
-pub mod Run
-pub mod Answers
+pub mod Calls
+pub mod inner

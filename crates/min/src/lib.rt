@@ -1,6 +1,6 @@
 // Farthest next use over a lent trace, and the schedule that it writes (document 01, "MIN").
 ghost use mathlib.Core.Path.{_≡_};
-ghost use Rattle.min.specs.Answers.{countsOf, scheduledOf, bytesOf};
+ghost use Rattle.min.specs.Calls.{countsOf, scheduledOf, bytesOf};
 
 mod run;
 mod write;

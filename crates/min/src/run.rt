@@ -4,7 +4,7 @@ ghost use mathlib.Core.Path.{_≡_};
 ghost use Rattle.lists.specs.Pages.{bit, count};
 ghost use Rattle.paging.specs.Policy.{isBundled, isLoad};
 ghost use Rattle.keys.specs.Keys.{kindFrom, kindsOf};
-ghost use Rattle.min.specs.Run.{Ready, Accepted, Counted};
+ghost use Rattle.min.specs.inner.Run.{PassReady, Accepted, Counted};
 
 pub struct Totals {
     pub bundles: u32,
@@ -33,7 +33,7 @@ fn load_bit(kind: u32) -> u32
 }
 
 pub(crate) fn pass(k: usize, a: usize, trace: &[u32], lefts: &[u32]) -> Totals
-    requires { ⌜ Ready k a (now trace) (now lefts) ⌝ }
+    requires { ⌜ PassReady k a (now trace) (now lefts) ⌝ }
     ensures { λ r. ⌜ (r .bundles ≡ count isBundled (kindsOf k a (now (trace .entry)) [])) × (r .loads ≡ count isLoad (kindsOf k a (now (trace .entry)) [])) ⌝ }
 {
     let mut held = [0u64; 256];

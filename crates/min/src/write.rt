@@ -6,8 +6,8 @@ ghost use lib.ListN.{length, take};
 ghost use Rattle.wire.specs.Numbers.{placed};
 ghost use Rattle.records.specs.Bytes.{evLength, evBytes, entryBytes, joined};
 ghost use Rattle.keys.specs.Keys.{pageOf, kindFrom, bundleOf, bundlesOf};
-ghost use Rattle.min.specs.Answers.{bytesRefusal, scheduledBy, bytesBy};
-ghost use Rattle.min.specs.Run.{Ready, Accepted, EvRoom, BundleRoom};
+ghost use Rattle.min.specs.Calls.{bytesRefusal, scheduledBy, bytesBy};
+ghost use Rattle.min.specs.inner.Run.{PassReady, Accepted, EvRoom, BundleRoom};
 use crate::Scheduled;
 use crate::run;
 
@@ -59,7 +59,7 @@ fn put_if_bundled(
 
 // An EV for each bundle of farthest next use over the trace, from an offset on.
 fn put_bundles(k: usize, a: usize, trace: &[u32], lefts: &[u32], out: &mut [u8], from: usize)
-    requires { ⌜ Ready k a (now trace) (now lefts) × (from + length (joined entryBytes (bundlesOf k a 0 (now trace) [])) ≤ length (now out)) ⌝ }
+    requires { ⌜ PassReady k a (now trace) (now lefts) × (from + length (joined entryBytes (bundlesOf k a 0 (now trace) [])) ≤ length (now out)) ⌝ }
     ensures { λ r. ⌜ now (out .exit) ≡ placed (now (out .entry)) from (joined entryBytes (bundlesOf k a 0 (now (trace .entry)) [])) ⌝ }
 {
     let mut held = [0u64; 256];

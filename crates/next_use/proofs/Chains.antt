@@ -12,7 +12,7 @@ use borrow.Author.Tests.{eq-eqb, ne-eqb, eqb-true, eqb-false}
 use Rattle.lists.specs.Choice.{pick}
 use Rattle.lists.proofs.Choice.{tests, cases}
 use Rattle.lists.proofs.Parts.{zeros}
-use Rattle.next_use.specs.Chains.{pageAt, low, high, lastWith, toldOf, Chained, Walked, Filled}
+use Rattle.next_use.specs.Chains.{pageAt, low, high, lastWith, toldOf, Chained, Walked, LeftsFilled}
 use Rattle.next_use.specs.Left.{left, leftsOf}
 
 -- Where a chain ends
@@ -147,7 +147,7 @@ module _ (c s r : ℕ) (trace heads before seen lefts : List ℕ) (half : c < 65
 
 -- A whole chain
 
-pub walk-starts : (c : ℕ) (trace seen lefts : List ℕ) → c < 65536 → Filled c trace seen lefts → Walked c (lastWith c (length trace) trace) trace seen lefts
+pub walk-starts : (c : ℕ) (trace seen lefts : List ℕ) → c < 65536 → LeftsFilled c trace seen lefts → Walked c (lastWith c (length trace) trace) trace seen lefts
 walk-starts c trace seen lefts b f =
     record {
       near = f .near;
@@ -160,7 +160,7 @@ walk-starts c trace seen lefts b f =
       same = λ t h e g. absurd (last-none c (length trace) t trace g h e);
     }
 
-pub walk-ends : (c : ℕ) (trace seen lefts : List ℕ) → Walked c 0 trace seen lefts → Filled (c + 1) trace seen lefts
+pub walk-ends : (c : ℕ) (trace seen lefts : List ℕ) → Walked c 0 trace seen lefts → LeftsFilled (c + 1) trace seen lefts
 walk-ends c trace seen lefts w =
     record {
       near = w .near;
@@ -173,7 +173,7 @@ walk-ends c trace seen lefts w =
 
 -- All chains
 
-pub fill-starts : (trace seen lefts : List ℕ) → ((h : ℕ) → getD seen h 0 ≡ 0) → Filled 0 trace seen lefts
+pub fill-starts : (trace seen lefts : List ℕ) → ((h : ℕ) → getD seen h 0 ≡ 0) → LeftsFilled 0 trace seen lefts
 fill-starts trace seen lefts z =
     record {
       near = λ h b. omega (arith, z h);
@@ -190,7 +190,7 @@ pub length-lefts : (trace : List ℕ) → length (leftsOf trace) ≡ length trac
 length-lefts [] = refl
 length-lefts (p ∷ ps) = ap suc (length-lefts ps)
 
-pub fill-ends : (trace seen lefts : List ℕ) → length trace ≤ length lefts → Filled 65536 trace seen lefts → take (length trace) lefts ≡ leftsOf trace
+pub fill-ends : (trace seen lefts : List ℕ) → length trace ≤ length lefts → LeftsFilled 65536 trace seen lefts → take (length trace) lefts ≡ leftsOf trace
 fill-ends trace seen lefts h f =
     let n = length-take-le (length trace) lefts h in
     ext-getD 0 (take (length trace) lefts) (leftsOf trace) (n ∙ sym (length-lefts trace))

@@ -45,7 +45,7 @@ pub record Walked (c s : ℕ) (trace seen lefts : List ℕ) : Type 0 where
   pub same : (t : ℕ) → t < length trace → low (pageAt trace t) ≡ c → s ≤ t → RightAt t trace lefts
 
 -- the chains of all low halves below c are walked
-pub record Filled (c : ℕ) (trace seen lefts : List ℕ) : Type 0 where
+pub record LeftsFilled (c : ℕ) (trace seen lefts : List ℕ) : Type 0 where
   pub near : (h : ℕ) → h < 65536 → getD seen h 0 ≤ length trace
   pub others : (h d : ℕ) → h < 65536 → c ≤ d → d < 65536 → toldOf trace (getD seen h 0) (h * 65536 + d) ≡ 0
   pub lower : (t : ℕ) → t < length trace → low (pageAt trace t) < c → RightAt t trace lefts
@@ -74,4 +74,4 @@ pub record Walkable (c : ℕ) (trace heads before seen lefts : List ℕ) : Type 
   pub table : length seen ≡ 65536
   pub room : length trace ≤ length lefts
   pub chained : Chained (length trace) trace heads before
-  pub filled : Filled c trace seen lefts
+  pub filled : LeftsFilled c trace seen lefts

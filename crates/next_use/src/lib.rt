@@ -2,7 +2,7 @@
 ghost use Prim.Native.Nat.{_≤_, _+_};
 ghost use mathlib.Core.Path.{_≡_};
 ghost use lib.ListN.{length, take};
-ghost use Rattle.next_use.specs.Chains.{toldOf, Chained, Filled, Tables, Unchained, Walkable};
+ghost use Rattle.next_use.specs.Chains.{toldOf, Chained, LeftsFilled, Tables, Unchained, Walkable};
 ghost use Rattle.next_use.specs.Left.{leftsOf};
 
 // Chains the requests by the low half of their pages: heads has one more than the last request of each chain, before for each request
@@ -37,7 +37,7 @@ fn told(trace: &[u32], near: u32, page: u32) -> u32
 // Walks the chain of the low half c from its end. `seen` has, by the high half of a page, how near the request seen last is.
 fn walk(trace: &[u32], heads: &[u32], before: &[u32], c: usize, seen: &mut [u32], lefts: &mut [u32])
     requires { ⌜ Walkable c (now trace) (now heads) (now before) (now seen) (now lefts) ⌝ }
-    ensures { λ r. ⌜ Filled (c + 1) (now (trace .entry)) (now (seen .exit)) (now (lefts .exit)) ⌝ }
+    ensures { λ r. ⌜ LeftsFilled (c + 1) (now (trace .entry)) (now (seen .exit)) (now (lefts .exit)) ⌝ }
 {
     let mut s = heads[c];
     while 0 < s {

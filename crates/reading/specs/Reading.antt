@@ -5,7 +5,7 @@ use mathlib.Core.List.{List}
 use lib.Dec.{eqb, ltb}
 use lib.ListN.{length, drop}
 use Rattle.lists.specs.Choice.{pick, _or_}
-use Rattle.paging.specs.Refusals.{sizesRefusal}
+use Rattle.paging.specs.Refusals.{sizesRefusal, largestK}
 use Rattle.wire.specs.Numbers.{num16, num32}
 use Rattle.records.specs.Bytes.{evLength}
 use Rattle.records.specs.Marks.{Mark, KA, RQ, EV, PF, bad, markAt}
@@ -45,7 +45,7 @@ rqRead (bad n) b at = refused n
 
 -- an EV's n is 0, above the bound, or above 256
 unfoldable pub countRefused : ℕ → ℕ → Bool
-countRefused bound n = eqb n 0 or (ltb bound n or ltb 256 n)
+countRefused bound n = eqb n 0 or (ltb bound n or ltb largestK n)
 
 -- an EV behind its mark: its fixed fields (5), its n (6), its pages (5)
 unfoldable pub evRead : ℕ → List ℕ → ℕ → Answer

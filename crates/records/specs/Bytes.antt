@@ -5,6 +5,7 @@ use mathlib.Core.List.{List, [], _∷_, _++_}
 use lib.Dec.{ltb}
 use lib.ListN.{length, getD}
 use Rattle.lists.specs.Choice.{pick}
+use Rattle.paging.specs.Refusals.{largestK}
 use Rattle.paging.specs.Schedule.{Entry, ev, pf}
 use Rattle.wire.specs.Numbers.{bytes16, bytes32, allBytes32}
 use Rattle.records.specs.Marks.{markKA, markRQ, markEV, markPF}
@@ -42,7 +43,7 @@ evLength n = 8 + 4 * n
 
 -- entry n of the table of EV lengths, for n up to 256. No EV has more pages; 0 is answered for more
 abbrev pub tableEntry : ℕ → ℕ
-tableEntry n = pick (ltb 256 n) 0 (evLength n)
+tableEntry n = pick (ltb largestK n) 0 (evLength n)
 
 -- 32-bit numbers: pages, and what an entry names
 abbrev pub Pages : List ℕ → Type 0
@@ -58,7 +59,7 @@ AllNamed (e ∷ es) = Named e × AllNamed es
 
 -- entries that have a record: an EV names 1 to 256 pages, and no more than a bound (a, for the judge)
 abbrev pub Writable : ℕ → Entry → Type 0
-Writable bound (ev t pages) = (0 < length pages) × ((length pages ≤ bound) × (length pages ≤ 256))
+Writable bound (ev t pages) = (0 < length pages) × ((length pages ≤ bound) × (length pages ≤ largestK))
 Writable bound (pf t page) = Unit {0}
 
 abbrev pub AllWritable : ℕ → List Entry → Type 0

@@ -6,7 +6,7 @@ use mathlib.Core.List.{List}
 use lib.Dec.{eqb, ltb}
 use lib.ListN.{length}
 use Rattle.lists.specs.Choice.{pick, _or_}
-use Rattle.paging.specs.Refusals.{refuse, sizesRefusal}
+use Rattle.paging.specs.Refusals.{refuse, sizesRefusal, largestK}
 use Rattle.wire.specs.Numbers.{placed}
 use Rattle.records.specs.Bytes.{kaBytes, rqBytes, evBytes, pfBytes}
 
@@ -21,7 +21,7 @@ roomRefusal b out at = refuse (ltb (length out) at) 9 (refuse (ltb (length out -
 
 -- an EV's n is 0 or above 256
 unfoldable pub pagesRefused : ℕ → Bool
-pagesRefused n = eqb n 0 or ltb 256 n
+pagesRefused n = eqb n 0 or ltb largestK n
 
 unfoldable pub kaRefusal : ℕ → ℕ → List ℕ → ℕ → ℕ
 kaRefusal k a out at = sizesRefusal k a (roomRefusal (kaBytes k a) out at)

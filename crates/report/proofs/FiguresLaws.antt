@@ -8,25 +8,25 @@ use lib.ListN.{length, take, replicate}
 use borrow.Author.Tests.{eq-eqb, ne-eqb}
 use Rattle.lists.specs.Choice.{pick}
 use Rattle.paging.specs.Layers.{noLayers, layersAfter, joinCount}
-use Rattle.paging.specs.Refusals.{traceRefusal}
+use Rattle.paging.specs.Refusals.{traceRefusal, SizesRight}
 use Rattle.paging.proofs.Refusals.{trace-taken}
 use Rattle.paging.proofs.Table.{tabled-top}
-use Rattle.lru.specs.Refusing as lru
+use Rattle.lru.specs.Calls as lru
 use Rattle.lru.specs.declared.Totals as lru-totals
 use Rattle.layers.specs.Traces.{traceTotals}
 use Rattle.layers.specs.declared.LayersTotals.{LayersTotals}
 use Rattle.layers.proofs.Steps.{trace-accepted, trace-counts}
-use Rattle.min.specs.Answers as min
+use Rattle.min.specs.Calls as min
 use Rattle.min.specs.declared.Counts as min-counts
-use Rattle.report.specs.Figures.{counts, layersCounts, figures, revealedAfter, refusedReport, reported, reportOf}
-use Rattle.report.specs.Reading.{fileOf}
+use Rattle.report.specs.Calls.{counts, layersCounts, figures, revealedAfter, refusedReport, reported, reportOf}
 use Rattle.report.specs.Traces.{whole, damaged, traceFile}
 use Rattle.report.specs.declared.Report.{Report}
 use Rattle.report.specs.declared.input.TraceRead.{TraceRead}
+use Rattle.report.specs.inner.Reading.{fileOf}
 
-module _ (k a : ℕ) (trace : List ℕ) (pos : 1 ≤ a) (le : a ≤ k) (small : k ≤ 256) (short : length trace ≤ 4096) where
+module _ (k a : ℕ) (trace : List ℕ) (right : SizesRight k a) (short : length trace ≤ 4096) where
   accepted : traceRefusal k a trace 0 ≡ 0
-  accepted = trace-taken k a trace (record { a-low = pos; a-high = le; k-high = small }) (omega arith) 0
+  accepted = trace-taken k a trace right (omega arith) 0
 
   abbrev blank : List ℕ
   blank = replicate 4096 0
@@ -34,7 +34,7 @@ module _ (k a : ℕ) (trace : List ℕ) (pos : 1 ≤ a) (le : a ≤ k) (small : 
   layers-take : traceTotals k a trace blank blank
       ≡ record { refusal = 0; bundles = joinCount k a trace; s = layersAfter k a trace noLayers .top; revealed = revealedAfter k a trace }
   layers-take =
-      trace-counts k a trace blank blank (trace-accepted k a pos le small trace (omega arith) 4096 short)
+      trace-counts k a trace blank blank (trace-accepted k a (right .a-low) (right .a-high) (right .k-high) trace (omega arith) 4096 short)
       ∙ rw (tabled-top k a trace) refl
 
   pub figures-told : (m : min-counts.Counts) (l : lru-totals.Totals) (y : LayersTotals)

@@ -17,9 +17,9 @@ use Rattle.reading.specs.Reading.{refused, ended, sizes, request, readTrace, ka
 use Rattle.reading.proofs.Facts.{trace-says}
 use Rattle.reading.proofs.Reading.{trace-first}
 use Rattle.reading.proofs.Walk.{requests-refused, requests-ended, requests-request}
-use Rattle.report.specs.Reading.{Filled, fileOf, ReadTo}
 use Rattle.report.specs.Traces.{whole, traceFile}
 use Rattle.report.specs.declared.input.Listed.{Listed}
+use Rattle.report.specs.inner.Reading.{PagesFilled, fileOf, ReadTo}
 
 pub record ReadSoFar (limit : ℕ) (file : List ℕ) (pages : List ℕ) (at n : ℕ) : Type 0 where
   pub behind : 0 < at
@@ -53,7 +53,7 @@ module _ (limit : ℕ) (file pages : List ℕ) (at n : ℕ) (R : ReadSoFar limit
       }
 
   pub reads-too-many : (page next : ℕ) → request page next ≡ readTrace file at → n ≡ length pages
-      → Filled limit (requestsFrom file 6) (record { refusal = 3; requests = 0 }) pages
+      → PagesFilled limit (requestsFrom file 6) (record { refusal = 3; requests = 0 }) pages
   reads-too-many page next e full =
       let whole : requestsFrom file 6 ≡ before (take n pages) (before (page ∷ []) (requestsFrom file next))
       = R .read ∙ ap (before (take n pages)) (requests-request file at page next (sym e)) in
@@ -64,7 +64,7 @@ module _ (limit : ℕ) (file pages : List ℕ) (at n : ℕ) (R : ReadSoFar limit
   fits : (xs : List ℕ) → xs ≡ [] → ltb limit (length (take n pages ++ xs)) ≡ false
   fits xs none = rw (none, append-nil (take n pages)) (le-ltb limit (length (take n pages)) (omega (arith, length-take-le n pages (R .room), R .kept, R .room)))
 
-  pub reads-end : ended ≡ readTrace file at → Filled limit (requestsFrom file 6) (record { refusal = 0; requests = n }) pages
+  pub reads-end : ended ≡ readTrace file at → PagesFilled limit (requestsFrom file 6) (record { refusal = 0; requests = n }) pages
   reads-end e =
       let whole : requestsFrom file 6 ≡ before (take n pages) (only 0) = R .read ∙ ap (before (take n pages)) (requests-ended file at (sym e)) in
       record {
@@ -73,7 +73,7 @@ module _ (limit : ℕ) (file pages : List ℕ) (at n : ℕ) (R : ReadSoFar limit
         places = λ z. rw whole (rw (append-nil (take n pages)) (sym (length-take-le n pages (R .room)), refl));
       }
 
-  pub reads-damage : (number : ℕ) → refused number ≡ readTrace file at → Filled limit (requestsFrom file 6) (record { refusal = number; requests = 0 }) pages
+  pub reads-damage : (number : ℕ) → refused number ≡ readTrace file at → PagesFilled limit (requestsFrom file 6) (record { refusal = number; requests = 0 }) pages
   reads-damage number e =
       let whole : requestsFrom file 6 ≡ before (take n pages) (only number) = R .read ∙ ap (before (take n pages)) (requests-refused file at number (sym e)) in
       record { number = rw (whole, fits [] refl); few = omega arith; places = λ z. absurd (trace-says file at (refused number) (sym e) z) }
@@ -99,7 +99,7 @@ module _ (limit : ℕ) (file pages : List ℕ) where
         sized = λ z. absurd (trace-says file 0 (refused number) (sym first) z);
       }
 
-  whole-told : (k a : ℕ) (r : Listed) → sizes k a 6 ≡ readTrace file 0 → Filled limit (requestsFrom file 6) r pages
+  whole-told : (k a : ℕ) (r : Listed) → sizes k a 6 ≡ readTrace file 0 → PagesFilled limit (requestsFrom file 6) r pages
       → fileOf (record { refusal = r .refusal; k = k; a = a; requests = r .requests }) pages ≡ traceFile limit file
   unfolding traceFile
   whole-told k a r first F =
@@ -108,10 +108,10 @@ module _ (limit : ℕ) (file pages : List ℕ) where
       (λ z. rw z (ap (whole k a) (F .places (eqb-true _ _ z) .1)))
       (λ z. rw z)))
 
-  pub starts-whole : (k a : ℕ) (r : Listed) → sizes k a 6 ≡ kaRead (markAt file) file → Filled limit (requestsFrom file 6) r pages
+  pub starts-whole : (k a : ℕ) (r : Listed) → sizes k a 6 ≡ kaRead (markAt file) file → PagesFilled limit (requestsFrom file 6) r pages
       → ReadTo limit file (record { refusal = r .refusal; k = k; a = a; requests = r .requests }) pages
   starts-whole k a r e F =
       let first : sizes k a 6 ≡ readTrace file 0 = trace-first file 0 refl e in
       let right = trace-says file 0 (sizes k a 6) (sym first) .right in
       let fine = sizes-right k a right in
-      record { told = whole-told k a r first F; few = F .few; sized = λ z. (fine .a-low, fine .a-high, fine .k-high) }
+      record { told = whole-told k a r first F; few = F .few; sized = λ z. fine }

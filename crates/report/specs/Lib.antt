@@ -1,3 +1,3 @@
 pub mod Traces
-pub mod Reading
-pub mod Figures
+pub mod Calls
+pub mod inner

@@ -2,14 +2,15 @@
 ghost use Prim.Native.Nat.{_≤_};
 ghost use mathlib.Core.Path.{_≡_};
 ghost use lib.ListN.{length};
-ghost use Rattle.report.specs.Figures.{figures};
-use crate::Counts;
-use crate::LayersCounts;
+ghost use Rattle.paging.specs.Refusals.{SizesRight};
+ghost use Rattle.report.specs.Calls.{figures};
+use crate::LayersFigures;
+use crate::PolicyFigures;
 use crate::Report;
 
 // The sizes are right and the trace is short enough: nothing is refused, and the table has a place for each request.
 pub(crate) fn of(k: u32, a: u32, trace: &[u32]) -> Report
-    requires { ⌜ (1 ≤ a) × (a ≤ k) × (k ≤ 256) × (length (now trace) ≤ 4096) ⌝ }
+    requires { ⌜ SizesRight k a × (length (now trace) ≤ 4096) ⌝ }
     ensures { λ r. ⌜ r ≡ figures k a (now (trace .entry)) ⌝ }
 {
     let least = min::count(k, a, trace);
@@ -17,15 +18,15 @@ pub(crate) fn of(k: u32, a: u32, trace: &[u32]) -> Report
     let mut pages = [0u32; 4096];
     let mut numbers = [0u32; 4096];
     let layered = layers::over_trace(k, a, trace, &mut pages, &mut numbers);
-    let min = Counts {
+    let min = PolicyFigures {
         bundles: least.bundles,
         loads: least.loads,
     };
-    let lru = Counts {
+    let lru = PolicyFigures {
         bundles: recent.bundles,
         loads: recent.loads,
     };
-    let layers = LayersCounts {
+    let layers = LayersFigures {
         bundles: layered.bundles,
         s: layered.s,
         revealed: layered.revealed,

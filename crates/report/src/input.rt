@@ -1,7 +1,7 @@
 // A trace file read into a lent list, whose length is the most requests that are taken.
 ghost use lib.ListN.{length};
 ghost use Rattle.reading.specs.Files.{requestsFrom};
-ghost use Rattle.report.specs.Reading.{Filled, ReadTo};
+ghost use Rattle.report.specs.inner.Reading.{PagesFilled, ReadTo};
 use reading::Start;
 use reading::TraceRecord;
 
@@ -21,7 +21,7 @@ pub(crate) struct TraceRead {
 
 // The requests behind the KA go into the list. One more than it has places for is refusal 3, judged in the loop.
 fn requests(file: &[u8], pages: &mut [u32]) -> Listed
-    ensures { λ r. ⌜ Filled (length (now (pages .entry))) (requestsFrom (now (file .entry)) 6) r (now (pages .exit)) ⌝ }
+    ensures { λ r. ⌜ PagesFilled (length (now (pages .entry))) (requestsFrom (now (file .entry)) 6) r (now (pages .exit)) ⌝ }
 {
     let mut at = 6;
     let mut n = 0;

@@ -1,18 +1,18 @@
 // The bench's figures for an input (document 01, "The eight-request shift"): one function on the input's bytes.
 ghost use mathlib.Core.Path.{_≡_};
-ghost use Rattle.report.specs.Figures.{reportOf, refusedReport};
+ghost use Rattle.report.specs.Calls.{reportOf, refusedReport};
 
 mod figures;
 mod input;
 
 // Bundles and loads of a policy.
-pub struct Counts {
+pub struct PolicyFigures {
     pub bundles: u32,
     pub loads: u32,
 }
 
 // Bundles that the layers count, s, and revealed pages.
-pub struct LayersCounts {
+pub struct LayersFigures {
     pub bundles: u32,
     pub s: u32,
     pub revealed: u32,
@@ -24,9 +24,9 @@ pub struct Report {
     pub k: u32,
     pub a: u32,
     pub requests: u32,
-    pub min: Counts,
-    pub lru: Counts,
-    pub layers: LayersCounts,
+    pub min: PolicyFigures,
+    pub lru: PolicyFigures,
+    pub layers: LayersFigures,
 }
 
 impl Report {
@@ -40,15 +40,15 @@ impl Report {
     pub fn refused(number: u32) -> Report
         ensures { λ r. ⌜ r ≡ refusedReport number ⌝ }
     {
-        let min = Counts {
+        let min = PolicyFigures {
             bundles: 0,
             loads: 0,
         };
-        let lru = Counts {
+        let lru = PolicyFigures {
             bundles: 0,
             loads: 0,
         };
-        let layers = LayersCounts {
+        let layers = LayersFigures {
             bundles: 0,
             s: 0,
             revealed: 0,

@@ -3,13 +3,13 @@ use native.Mathlib.Omega.{arith}
 use mathlib.Core.Path.{_≡_, refl, _∙_}
 use lib.ListN.{length}
 use borrow.Author.Needs.{needs}
-use Rattle.next_use.specs.Chains.{Filled}
+use Rattle.next_use.specs.Chains.{LeftsFilled}
 use Rattle.next_use.proofs.Chains.{fill-starts, fill-ends, cleared}
 use Rattle.next_use.proofs.fill_by.Statement.{statement}
 use Rattle.next_use.proofs.fill_by.Tie as tie
 
 abbrev Inv-loop : tie.InvT-loop
-Inv-loop trace heads before seen₀ lefts₀ c₀ seen lefts c = (c ≤ 65536) × ((length lefts ≡ length lefts₀) × ((length seen ≡ length seen₀) × Filled c trace seen lefts))
+Inv-loop trace heads before seen₀ lefts₀ c₀ seen lefts c = (c ≤ 65536) × ((length lefts ≡ length lefts₀) × ((length seen ≡ length seen₀) × LeftsFilled c trace seen lefts))
 
 abbrev μ-loop : tie.MeasureT-loop
 μ-loop trace heads before seen₀ lefts₀ c₀ seen lefts c = 65536 - c

@@ -21,7 +21,7 @@ of-requires : tie.Need-of-requires
 of-requires c κs =
     let trace = c .before .before .before .before .trace in
     let z = trace .ensures .sized (c .before .if1 .left) in
-    (z .0, z .1, z .2, omega (arith, length-take (trace .result .requests) (trace .last .1 .0), trace .ensures .few))
+    (z, omega (arith, length-take (trace .result .requests) (trace .last .1 .0), trace .ensures .few))
 
 returns-2 : tie.Need-returns-2
 returns-2 c =

@@ -1,7 +1,7 @@
 use native.Mathlib.Omega.{arith}
 use mathlib.Core.Path.{refl}
 use borrow.Author.Needs.{needs}
-use Rattle.judge.specs.Places.{standing}
+use Rattle.judge.specs.inner.Places.{standing}
 use Rattle.judge.proofs.EntryLaws.{falls, late, there, seven, opens, opens-sound}
 use Rattle.judge.proofs.entries.arrive.Statement.{statement}
 use Rattle.judge.proofs.entries.arrive.Tie as tie

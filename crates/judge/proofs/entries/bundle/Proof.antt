@@ -4,7 +4,7 @@ use lib.ListN.{drop}
 use borrow.Author.Needs.{needs}
 use Rattle.paging.specs.Schedule.{ev}
 use Rattle.wire.specs.Numbers.{nums32}
-use Rattle.judge.specs.Places.{standing}
+use Rattle.judge.specs.inner.Places.{standing}
 use Rattle.judge.proofs.EntryLaws.{acts, halts, lands, ev-late, ev-missing, ev-done, ev-sound}
 use Rattle.judge.proofs.entries.bundle.Statement.{statement}
 use Rattle.judge.proofs.entries.bundle.Tie as tie

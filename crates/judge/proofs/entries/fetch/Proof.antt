@@ -2,7 +2,7 @@ use native.Mathlib.Omega.{arith}
 use mathlib.Core.Path.{sym, _∙_}
 use borrow.Author.Needs.{needs}
 use Rattle.paging.specs.Schedule.{pf}
-use Rattle.judge.specs.Places.{standing}
+use Rattle.judge.specs.inner.Places.{standing}
 use Rattle.judge.proofs.EntryLaws.{acts, halts, lands, pf-held, pf-fetched, pf-done, pf-sound}
 use Rattle.judge.proofs.entries.fetch.Statement.{statement}
 use Rattle.judge.proofs.entries.fetch.Tie as tie

@@ -3,7 +3,7 @@ use native.Mathlib.Omega.{arith}
 use mathlib.Core.Path.{_≡_, refl, sym, _∙_}
 use borrow.Author.Needs.{needs}
 use Rattle.lists.specs.Pages.{mem}
-use Rattle.judge.specs.Fetches.{fetchedPages}
+use Rattle.judge.specs.inner.Fetches.{fetchedPages}
 use Rattle.judge.proofs.FetchLaws.{fetched-here, fetched-next, fetched-none}
 use Rattle.judge.proofs.fetches.fetched.Statement.{statement}
 use Rattle.judge.proofs.fetches.fetched.Tie as tie

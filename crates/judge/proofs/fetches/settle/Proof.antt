@@ -4,7 +4,7 @@ use mathlib.Core.List.{_++_}
 use mathlib.Core.Path.{_≡_, refl, _∙_}
 use lib.ListN.{length, take, length-set}
 use borrow.Author.Needs.{needs}
-use Rattle.judge.specs.Fetches.{fetchedPages}
+use Rattle.judge.specs.inner.Fetches.{fetchedPages}
 use Rattle.judge.proofs.FetchLaws.{settled-next, settled-all}
 use Rattle.judge.proofs.fetches.settle.Statement.{statement}
 use Rattle.judge.proofs.fetches.settle.Tie as tie

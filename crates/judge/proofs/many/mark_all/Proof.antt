@@ -5,7 +5,7 @@ use lib.ListN.{length}
 use borrow.Author.Needs.{needs}
 use Rattle.repeats.specs.Bits.{words, AllMarked}
 use Rattle.repeats.proofs.BitLaws.{all-none}
-use Rattle.judge.specs.Fetches.{fetchedPages}
+use Rattle.judge.specs.inner.Fetches.{fetchedPages}
 use Rattle.judge.proofs.ManyLaws.{mark-next, mark-last}
 use Rattle.judge.proofs.many.mark_all.Statement.{statement}
 use Rattle.judge.proofs.many.mark_all.Tie as tie

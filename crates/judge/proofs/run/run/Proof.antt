@@ -3,8 +3,8 @@ use native.Mathlib.Omega.{arith}
 use mathlib.Core.Path.{_≡_, refl, _∙_}
 use lib.ListN.{length}
 use borrow.Author.Needs.{needs}
-use Rattle.judge.specs.Places.{Sound}
-use Rattle.judge.specs.Verdicts.{placeAnswer}
+use Rattle.judge.specs.inner.Places.{Sound}
+use Rattle.judge.specs.inner.Verdicts.{placeAnswer}
 use Rattle.judge.proofs.RunLaws.{run-again, run-done}
 use Rattle.judge.proofs.run.run.Statement.{statement}
 use Rattle.judge.proofs.run.run.Tie as tie

@@ -1,6 +1,6 @@
 use mathlib.Core.Path.{sym, ap}
 use borrow.Author.Needs.{needs}
-use Rattle.judge.specs.Verdicts.{turnOf}
+use Rattle.judge.specs.inner.Verdicts.{turnOf}
 use Rattle.judge.proofs.run.turned.Statement.{statement}
 use Rattle.judge.proofs.run.turned.Tie as tie
 

@@ -2,7 +2,7 @@ use Prim.Native.Nat.{_≤_}
 use native.Mathlib.Omega.{arith}
 use mathlib.Core.Path.{_≡_}
 use borrow.Author.Needs.{needs}
-use Rattle.layers.specs.Sizes.{presentIn}
+use Rattle.layers.specs.inner.Sizes.{presentIn}
 use Rattle.layers.proofs.Reading.{present-next, present-bad, present-end}
 use Rattle.layers.proofs.formed.present.Statement.{statement}
 use Rattle.layers.proofs.formed.present.Tie as tie

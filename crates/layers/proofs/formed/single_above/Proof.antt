@@ -2,7 +2,7 @@ use Prim.Native.Nat.{_≤_}
 use native.Mathlib.Omega.{arith}
 use mathlib.Core.Path.{_≡_}
 use borrow.Author.Needs.{needs}
-use Rattle.layers.specs.Sizes.{singleIn}
+use Rattle.layers.specs.inner.Sizes.{singleIn}
 use Rattle.layers.proofs.Reading.{single-next, single-bad, single-end}
 use Rattle.layers.proofs.formed.single_above.Statement.{statement}
 use Rattle.layers.proofs.formed.single_above.Tie as tie

@@ -2,7 +2,7 @@ use Prim.Native.Nat.{_≤_, _-_}
 use native.Mathlib.Omega.{arith}
 use lib.ListN.{length, take}
 use borrow.Author.Needs.{needs}
-use Rattle.layers.specs.Sizes.{Tallied}
+use Rattle.layers.specs.inner.Sizes.{Tallied}
 use Rattle.layers.proofs.Reading.{tally-start, tally-low, tally-one, tally-skip, tally-end}
 use Rattle.layers.proofs.formed.tally.Statement.{statement}
 use Rattle.layers.proofs.formed.tally.Tie as tie

@@ -2,7 +2,7 @@ use Prim.Native.Nat.{ℕ, suc, _+_, _-_, _≤_, _<_}
 use native.Mathlib.Omega.{arith}
 use mathlib.Core.Path.{_≡_, refl}
 use borrow.Author.Needs.{needs}
-use Rattle.layers.specs.Sizes.{sumBelow}
+use Rattle.layers.specs.inner.Sizes.{sumBelow}
 use Rattle.layers.proofs.Asking.{walk-next, walk-broken, walk-end}
 use Rattle.layers.proofs.questions.first_broken.Statement.{statement}
 use Rattle.layers.proofs.questions.first_broken.Tie as tie

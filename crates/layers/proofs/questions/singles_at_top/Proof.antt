@@ -3,7 +3,7 @@ use native.Mathlib.Omega.{arith}
 use mathlib.Core.Path.{_≡_}
 use borrow.Author.Needs.{needs}
 use Rattle.paging.specs.Table.{revealed}
-use Rattle.layers.specs.Sizes.{numbered}
+use Rattle.layers.specs.inner.Sizes.{numbered}
 use Rattle.layers.proofs.Asking.{top-start, top-next, top-stop, top-end}
 use Rattle.layers.proofs.questions.singles_at_top.Statement.{statement}
 use Rattle.layers.proofs.questions.singles_at_top.Tie as tie

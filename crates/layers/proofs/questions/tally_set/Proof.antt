@@ -6,7 +6,7 @@ use lib.ListN.{length, take}
 use borrow.Author.Needs.{needs}
 use Rattle.paging.specs.Rows.{rowsOf}
 use Rattle.paging.specs.Table.{numberIn}
-use Rattle.layers.specs.Sizes.{Tallied}
+use Rattle.layers.specs.inner.Sizes.{Tallied}
 use Rattle.layers.proofs.Asking.{map-get, map-in, map-past}
 use Rattle.layers.proofs.Reading.{tally-start, tally-low, tally-one, tally-skip, tally-end}
 use Rattle.layers.proofs.questions.tally_set.Statement.{statement}

@@ -6,7 +6,7 @@ use borrow.Author.Needs.{needs}
 use Rattle.lists.proofs.Choice.{bit-le}
 use Rattle.paging.specs.Policy.{isBundled, isLoad}
 use Rattle.keys.specs.Keys.{kindFrom}
-use Rattle.min.specs.Run.{Counting}
+use Rattle.min.specs.inner.Run.{Counting}
 use Rattle.min.proofs.Turn.{lefts-long, room, counting-turn, counting-starts, counting-ends, count-kinds}
 use Rattle.min.proofs.run.pass.Statement.{statement}
 use Rattle.min.proofs.run.pass.Tie as tie

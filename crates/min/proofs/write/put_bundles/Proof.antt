@@ -3,7 +3,7 @@ use native.Mathlib.Omega.{arith}
 use mathlib.Core.Path.{refl, sym}
 use lib.ListN.{length}
 use borrow.Author.Needs.{needs}
-use Rattle.min.specs.Run.{Writing}
+use Rattle.min.specs.inner.Run.{Writing}
 use Rattle.min.proofs.Turn.{lefts-long, room}
 use Rattle.min.proofs.Written.{writing-starts, writing-turn, writing-ends, bundle-room}
 use Rattle.min.proofs.write.put_bundles.Statement.{statement}

@@ -13,7 +13,7 @@ returns c =
     let count = c .before .before .before .before .before .before .count in
     let over-trace = c .before .before .before .before .before .over-trace in
     let over-trace2 = c .before .before .over-trace2 in
-    figures-told k a trace (pre .0) (pre .1) (pre .2) (pre .3) (count .result) (over-trace .result) (over-trace2 .result) (count .ensures) (over-trace .ensures)
+    figures-told k a trace (pre .0) (pre .1) (count .result) (over-trace .result) (over-trace2 .result) (count .ensures) (over-trace .ensures)
     (over-trace2 .ensures .0)
 
 pub of-spec : {M : Type 1} → statement M

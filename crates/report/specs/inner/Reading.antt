@@ -5,13 +5,14 @@ use mathlib.Core.Path.{_≡_}
 use lib.Dec.{eqb}
 use lib.ListN.{length, take}
 use Rattle.lists.specs.Choice.{pick}
+use Rattle.paging.specs.Refusals.{SizesRight}
 use Rattle.reading.specs.Files.{File}
 use Rattle.report.specs.Traces.{TraceFile, whole, damaged, traceFile, requestsRefusal}
 use Rattle.report.specs.declared.input.Listed.{Listed}
 use Rattle.report.specs.declared.input.TraceRead.{TraceRead}
 
 -- the requests behind the KA: a refusal's number, or 0 with the pages in the first places of the list
-pub record Filled (limit : ℕ) (file : File ℕ) (r : Listed) (pages : List ℕ) : Type 0 where
+pub record PagesFilled (limit : ℕ) (file : File ℕ) (r : Listed) (pages : List ℕ) : Type 0 where
   pub number : r .refusal ≡ requestsRefusal limit file
   pub few : r .requests ≤ limit
   pub places : r .refusal ≡ 0 → (r .requests ≡ length (file .held)) × (take (r .requests) pages ≡ file .held)
@@ -24,4 +25,4 @@ fileOf r pages = pick (eqb (r .refusal) 0) (whole (r .k) (r .a) (take (r .reques
 pub record ReadTo (limit : ℕ) (file : List ℕ) (r : TraceRead) (pages : List ℕ) : Type 0 where
   pub told : fileOf r pages ≡ traceFile limit file
   pub few : r .requests ≤ limit
-  pub sized : r .refusal ≡ 0 → (1 ≤ r .a) × (r .a ≤ r .k) × (r .k ≤ 256)
+  pub sized : r .refusal ≡ 0 → SizesRight (r .k) (r .a)

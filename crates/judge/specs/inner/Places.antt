@@ -5,7 +5,6 @@ use mathlib.Core.Path.{_≡_}
 use lib.Dec.{ltb}
 use lib.ListN.{length, take}
 use Rattle.reading.specs.Files.{requestsFrom}
-use Rattle.judge.specs.Fetches.{fetchedPages}
 use Rattle.judging.specs.Judging.{Standing}
 use Rattle.judging.specs.Judging as judging
 use Rattle.judge.specs.declared.closing.Closing as closings
@@ -13,6 +12,7 @@ use Rattle.judge.specs.declared.closing.Closing.the-variants as closing
 use Rattle.judge.specs.declared.entries.Place.{Place}
 use Rattle.judge.specs.declared.entries.Step as steps
 use Rattle.judge.specs.declared.entries.Step.the-variants as step
+use Rattle.judge.specs.inner.Fetches.{fetchedPages}
 
 abbrev pub standing : (trace schedule held : List ℕ) → Place → Standing
 standing trace schedule held p =

@@ -9,14 +9,14 @@ use Rattle.paging.specs.Min.{bestCount, minLoads}
 use Rattle.paging.specs.Policy.{bundleCount, loadCount}
 use Rattle.paging.specs.Table.{revealed, tabledAfter, nothingYet}
 use Rattle.report.specs.Traces.{TraceFile, whole, damaged, traceFile}
-use Rattle.report.specs.declared.Counts.{Counts}
-use Rattle.report.specs.declared.LayersCounts.{LayersCounts}
+use Rattle.report.specs.declared.LayersFigures.{LayersFigures}
+use Rattle.report.specs.declared.PolicyFigures.{PolicyFigures}
 use Rattle.report.specs.declared.Report.{Report}
 
-abbrev pub counts : (bundles loads : ℕ) → Counts
+abbrev pub counts : (bundles loads : ℕ) → PolicyFigures
 counts bundles loads = record { bundles = bundles; loads = loads }
 
-abbrev pub layersCounts : (bundles s revealed : ℕ) → LayersCounts
+abbrev pub layersCounts : (bundles s revealed : ℕ) → LayersFigures
 layersCounts bundles s shown = record { bundles = bundles; s = s; revealed = shown }
 
 abbrev pub refusedReport : (number : ℕ) → Report

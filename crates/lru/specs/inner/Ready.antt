@@ -8,7 +8,7 @@ use Rattle.lists.specs.Pages.{distinct}
 use Rattle.paging.specs.Refusals.{SizesRight, longestTrace, fullCounter}
 use Rattle.lru.specs.declared.Run.{Run}
 
-pub record Ready (run : Run) (count : ℕ) (cache evicted : List ℕ) : Type 0 where
+pub record RequestReady (run : Run) (count : ℕ) (cache evicted : List ℕ) : Type 0 where
   pub sizes : SizesRight (run .k) (run .a)
   pub cache-room : run .k ≤ length cache
   pub evicted-room : run .a ≤ length evicted
@@ -19,7 +19,7 @@ pub record Ready (run : Run) (count : ℕ) (cache evicted : List ℕ) : Type 0 w
   pub further : run .requests ≡ fullCounter → ⊥
 
 -- the counters of the record do not pass their limit with one more request
-pub record Counts (run : Run) (loads bundles : ℕ) : Type 0 where
+pub record CountersFit (run : Run) (loads bundles : ℕ) : Type 0 where
   pub requests-fit : run .requests < fullCounter
   pub loads-fit : run .loads + loads < 4294967296
   pub evictions-fit : run .evictions + bundles < 4294967296

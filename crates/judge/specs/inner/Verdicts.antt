@@ -4,11 +4,11 @@ use mathlib.Core.List.{List}
 use lib.Dec.{eqb, ltb}
 use lib.ListN.{length}
 use Rattle.lists.specs.Choice.{pick}
+use Rattle.paging.specs.Refusals.{longestTrace}
 use Rattle.reading.specs.Files.{File, entriesFrom}
 use Rattle.judging.specs.Answer.{Answer, cost, refused}
-use Rattle.judging.specs.Files.{longest}
+use Rattle.judging.specs.Files.{longestTrace}
 use Rattle.judging.specs.Judging.{judgedFrom}
-use Rattle.judge.specs.Places.{standing, Sound}
 use Rattle.judge.specs.declared.entries.Place.{Place}
 use Rattle.judge.specs.declared.entries.Step as steps
 use Rattle.judge.specs.declared.entries.Step.the-variants as step
@@ -18,6 +18,7 @@ use Rattle.judge.specs.declared.run.Turn.{Turn}
 use Rattle.judge.specs.declared.run.Turn.the-variants as turn
 use Rattle.judge.specs.declared.run.Verdict.{Verdict}
 use Rattle.judge.specs.declared.run.Verdict.the-variants as verdict
+use Rattle.judge.specs.inner.Places.{standing, Sound}
 
 abbrev pub verdictAnswer : Verdict → Answer
 verdictAnswer (verdict.Cost bundles) = cost bundles
@@ -52,15 +53,15 @@ SoundTurn k requests trace schedule p (turn.On q) = Onward k requests trace sche
 SoundTurn k requests trace schedule p (turn.Done v) = AtMost (length schedule) v
 
 -- the number of a trace's requests, or its refusal
-pub data Counts : Type 0 where
-  requests : (n : ℕ) → Counts
-  barred : (number : ℕ) → Counts
+pub data RequestCount : Type 0 where
+  requests : (n : ℕ) → RequestCount
+  barred : (number : ℕ) → RequestCount
 
-abbrev pub counts : File ℕ → Counts
+abbrev pub counts : File ℕ → RequestCount
 counts file =
-    pick (ltb longest (length (file .held))) (barred 3)
+    pick (ltb longestTrace (length (file .held))) (barred 3)
     (pick (eqb (file .damage) 0) (requests (length (file .held))) (barred (file .damage)))
 
-abbrev pub countedIn : Counted → Counts
+abbrev pub countedIn : Counted → RequestCount
 countedIn (counted.Requests n) = requests n
 countedIn (counted.Refused number) = barred number

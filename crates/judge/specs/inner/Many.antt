@@ -6,12 +6,12 @@ use lib.ListN.{length}
 use Rattle.reading.specs.Files.{requestsFrom}
 use Rattle.reading.specs.Reading.{readSchedule}
 use Rattle.reading.specs.Reading as reading
-use Rattle.judge.specs.Verdicts.{placeAnswer, turnOf, turnAnswer}
 use Rattle.judge.specs.declared.entries.Place.{Place}
 use Rattle.judge.specs.declared.entries.Step as steps
 use Rattle.judge.specs.declared.entries.Step.the-variants as step
 use Rattle.judge.specs.declared.many.Ahead.{Ahead}
 use Rattle.judge.specs.declared.many.Ahead.the-variants as ahead
+use Rattle.judge.specs.inner.Verdicts.{placeAnswer, turnOf, turnAnswer}
 
 -- a page ahead is that of a PF of request t, which is the schedule's record at this offset
 abbrev pub AheadIs : (a : ℕ) → (schedule : List ℕ) → (at t : ℕ) → Ahead → Type 0
@@ -19,7 +19,7 @@ AheadIs a schedule at t (ahead.Page page) = readSchedule a schedule at ≡ readi
 AheadIs a schedule at t ahead.Other = Unit {0}
 
 -- a place whose pages and PFs are there to be looked at
-pub record Ready (schedule held : List ℕ) (p : Place) : Type 0 where
+pub record FetchesReady (schedule held : List ℕ) (p : Place) : Type 0 where
   pub room : p .n ≤ length held
   pub inside : p .from + 10 * p .fetches ≤ length schedule
 
@@ -45,7 +45,7 @@ pub record ReadOn (a : ℕ) (schedule held : List ℕ) (p : Place) (r : steps.St
 
 -- the same behind a step: a refusal stays
 abbrev pub ReadyStep : (schedule held : List ℕ) → steps.Step → Type 0
-ReadyStep schedule held (step.On p) = Ready schedule held p
+ReadyStep schedule held (step.On p) = FetchesReady schedule held p
 ReadyStep schedule held (step.Stop number) = Unit {0}
 
 abbrev pub ReadOnStep : (a : ℕ) → (schedule held : List ℕ) → (s r : steps.Step) → Type 0

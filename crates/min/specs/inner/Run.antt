@@ -19,7 +19,7 @@ pub record Accepted (k a : ℕ) (trace lefts : List ℕ) : Type 0 where
   pub room : length trace ≤ length lefts
 
 -- the same, with the lefts in their places
-pub record Ready (k a : ℕ) (trace lefts : List ℕ) : Type 0 where
+pub record PassReady (k a : ℕ) (trace lefts : List ℕ) : Type 0 where
   pub sizes : SizesRight k a
   pub short : length trace ≤ longestTrace
   pub filled : take (length trace) lefts ≡ leftsOf trace
@@ -38,7 +38,7 @@ pub record Counting (k a t n bundles loads : ℕ) (trace keys : List ℕ) : Type
 
 -- what a whole pass answers, and the lefts that it leaves
 pub record Counted (k a : ℕ) (trace lefts : List ℕ) (bundles loads : ℕ) : Type 0 where
-  pub ready : Ready k a trace lefts
+  pub ready : PassReady k a trace lefts
   pub best : bundles ≡ bestCount k a trace
   pub loaded : loads ≡ minLoads k a trace
 
