@@ -10,33 +10,19 @@ use Rattle.lists.specs.Choice.{_and_, _or_}
 use Rattle.lists.specs.Sorting.{rowBefore}
 use Rattle.paging.specs.Layers.{breaksAt}
 use Rattle.paging.specs.Min.{farther}
-use Rattle.paging.specs.Refusals.{sizesRefusal}
+use Rattle.paging.specs.Refusals.{sizesRefusal, traceRefusal}
 use Rattle.paging.specs.Rows.{rowsOf}
-use Rattle.paging.specs.Schedule.{Entry, ev, pf}
+use Rattle.paging.specs.Schedule.{ev}
+use Rattle.paging.proofs.Same.{samePages, sameEntries, every, shift}
 use Rattle.lru.specs.Calls as lru
 use Rattle.lru.specs.Standing.{Call, State, afterCalls, emptyState}
 use Rattle.layers.specs.Calls.{stateRefusal, requestRefusal, requestReply, pagesNext, numbersNext}
 use Rattle.layers.specs.Formed as formed
 use Rattle.layers.specs.Questions.{Verdict, refusedWith, possibleSet, countDiffers, broken, verdict, possibleRefusal, layersIn}
-use Rattle.layers.specs.Traces.{traceTotals, pagesOver, numbersOver, overRefusal}
+use Rattle.layers.specs.Traces.{traceTotals, pagesOver, numbersOver, overRefusal, earlyRefusal}
 use Rattle.min.specs.Calls as min
 use Rattle.demands.specs.Demand3.{minEntries}
 use Rattle.demands.specs.LayersCalls.{LayersCall, request, LayersState, layersStart, layersAfterCalls}
-
-samePages : List ℕ → List ℕ → Bool
-samePages [] [] = true
-samePages [] (q ∷ qs) = false
-samePages (p ∷ ps) [] = false
-samePages (p ∷ ps) (q ∷ qs) = eqb p q and samePages ps qs
-
-sameEntries : List Entry → List Entry → Bool
-sameEntries [] [] = true
-sameEntries [] (e ∷ es) = false
-sameEntries (e ∷ es) [] = false
-sameEntries (ev t ps ∷ es) (ev u qs ∷ fs) = eqb t u and samePages ps qs and sameEntries es fs
-sameEntries (ev t ps ∷ es) (pf u q ∷ fs) = false
-sameEntries (pf t p ∷ es) (ev u qs ∷ fs) = false
-sameEntries (pf t p ∷ es) (pf u q ∷ fs) = eqb t u and eqb p q and sameEntries es fs
 
 -- what a verdict says, as a number: 0 for possible, 1 for "count differs", 2 for a broken layer, and a refusal's own number
 said : Verdict → ℕ
@@ -50,10 +36,6 @@ isRefused possibleSet = false
 isRefused countDiffers = false
 isRefused broken = false
 isRefused (refusedWith number) = true
-
--- the eight-request shift, with k 3 and a 2
-shift : List ℕ
-shift = 1 ∷ 2 ∷ 3 ∷ 4 ∷ 2 ∷ 5 ∷ 6 ∷ 1 ∷ []
 
 zeros : ℕ → List ℕ
 zeros n = replicate n 0
@@ -131,10 +113,8 @@ cases =
     ∷ eqb (layersAt 2 1 3 (1 ∷ 2 ∷ 3 ∷ 1 ∷ 4 ∷ []) .run .requests) 5
     ∷ []
 
-every : List Bool → Bool
-every [] = true
-every (b ∷ bs) = b and every bs
-
 marked-cases-hold : every cases ≡ true
-unfolding every cases refusedAt breaks asked layersAt layersCalls bundleAt lruAfter lruCalls zeros shift isRefused said sameEntries samePages _and_ _or_ rowBefore farther sizesRefusal min.overRefusal lru.requestRefusal lru.wellFormed lru.overRefusal formed.isUnused formed.follows formed.wellFormed stateRefusal requestRefusal requestReply pagesNext numbersNext verdict possibleRefusal overRefusal traceTotals pagesOver numbersOver
+unfolding every cases refusedAt breaks asked layersAt layersCalls bundleAt lruAfter lruCalls zeros isRefused said sameEntries samePages _and_ _or_
+    rowBefore farther sizesRefusal traceRefusal earlyRefusal lru.requestRefusal lru.wellFormed formed.isUnused formed.follows formed.layersWellFormed
+    stateRefusal requestRefusal requestReply pagesNext numbersNext verdict possibleRefusal traceTotals pagesOver numbersOver
 marked-cases-hold = refl

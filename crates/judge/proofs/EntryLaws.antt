@@ -175,7 +175,13 @@ module _ (k requests : ℕ) (trace schedule held : List ℕ) (p : Place) (f : So
   pf-done page a b e =
       let absent : mem page (take (p .n) held ++ fetchedPages schedule (p .from) (p .fetches)) ≡ false =
       rw (mem-append page (take (p .n) held) (fetchedPages schedule (p .from) (p .fetches)), ← a, ← b) in
-      rw (absent, fetched-snoc schedule (p .from) (p .fetches), ← e, lt-ltb 0 (p .fetches + 1) (omega arith), append-assoc (take (p .n) held) (fetchedPages schedule (p .from) (p .fetches)) (page ∷ []))
+      rw (
+        absent,
+        fetched-snoc schedule (p .from) (p .fetches),
+        ← e,
+        lt-ltb 0 (p .fetches + 1) (omega arith),
+        append-assoc (take (p .n) held) (fetchedPages schedule (p .from) (p .fetches)) (page ∷ []),
+      )
 
   pub pf-sound : p .from + 10 * p .fetches + 10 ≤ length schedule → SoundAt k requests trace schedule (p .from + 10 * p .fetches + 10) pfPlace
   pf-sound h =

@@ -44,7 +44,8 @@ pub fetched-none : (s : List ℕ) (at left page : ℕ) → left ≤ 0 → mem pa
 fetched-none s at zero page h = refl
 fetched-none s at (suc left) page h = absurd (omega arith)
 
-pub settled-all : (s held before : List ℕ) (at left m count n : ℕ) → left ≤ 0 → m + left ≡ n + count → take m held ++ fetchedPages s at left ≡ before → take (n + count) held ≡ before
+pub settled-all : (s held before : List ℕ) (at left m count n : ℕ) → left ≤ 0 → m + left ≡ n + count → take m held ++ fetchedPages s at left ≡ before
+    → take (n + count) held ≡ before
 settled-all s held before at zero m count n h e q =
     let w : n + count ≡ m = omega arith in
     rw w (sym (append-nil (take m held)) ∙ q)

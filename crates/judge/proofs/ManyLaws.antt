@@ -100,7 +100,16 @@ module _ (a : ℕ) (schedule held : List ℕ) (p : Place) (page : ℕ) where
       pub new-goes-on : false ≡ mem page pages → placeAnswer k a trace schedule held (fetching p (p .fetches + 1)) ≡ placeAnswer k a trace schedule held p
       new-goes-on m =
           let at : p .from + 10 * (p .fetches + 1) ≡ here + 10 = omega arith in
-          rw (at, file, acts-here, ← m, fetched-snoc schedule (p .from) (p .fetches), ← ahead-fact .page-is, lt-ltb 0 (p .fetches + 1) (omega arith), append-assoc (take (p .n) held) (fetchedPages schedule (p .from) (p .fetches)) (page ∷ []))
+          rw (
+            at,
+            file,
+            acts-here,
+            ← m,
+            fetched-snoc schedule (p .from) (p .fetches),
+            ← ahead-fact .page-is,
+            lt-ltb 0 (p .fetches + 1) (omega arith),
+            append-assoc (take (p .n) held) (fetchedPages schedule (p .from) (p .fetches)) (page ∷ []),
+          )
 
 -- The loop: what is left to read from so many PFs on gives what the whole gives, and their marks are set
 

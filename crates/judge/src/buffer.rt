@@ -46,7 +46,8 @@ fn take_out(held: &mut [u32], n: usize, page: u32) -> bool
 // The `count` pages that stand in the schedule from an offset on are taken out, one by one. False where one is not held.
 pub(crate) fn evict(held: &mut [u32], n: usize, schedule: &[u8], from: usize, count: usize) -> bool
     requires { ⌜ (n ≤ length (now held)) × (from + 4 * count ≤ length (now schedule)) ⌝ }
-    ensures { λ r. ⌜ (r ≡ heldInTurn (nums32 count (drop from (now (schedule .entry)))) (take n (now (held .entry)))) × (r ≡ true → (count ≤ n) × (take (n - count) (now (held .exit)) ≡ eraseAll (nums32 count (drop from (now (schedule .entry)))) (take n (now (held .entry))))) ⌝ }
+    ensures { λ r. ⌜ (r ≡ heldInTurn (nums32 count (drop from (now (schedule .entry)))) (take n (now (held .entry))))
+        × (r ≡ true → (count ≤ n) × (take (n - count) (now (held .exit)) ≡ eraseAll (nums32 count (drop from (now (schedule .entry)))) (take n (now (held .entry))))) ⌝ }
 {
     let mut at = from;
     let mut left = count;

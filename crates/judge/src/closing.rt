@@ -44,7 +44,8 @@ fn request_at(trace: &[u8], at: usize) -> Request
 // The next `count` requests from the n pages held.
 fn close(trace: &[u8], at: usize, count: usize, held: &mut [u32], n: usize, k: usize) -> Closing
     requires { ⌜ (0 < at) × (count ≤ length (requestsFrom (now trace) at .held)) × (n ≤ k) × (k ≤ length (now held)) ⌝ }
-    ensures { λ r. ⌜ (closingOf (now (trace .entry)) (now (held .exit)) r ≡ closing k count (requestsFrom (now (trace .entry)) at .held) (take n (now (held .entry)))) × Cursor (now (trace .entry)) k at r ⌝ }
+    ensures { λ r. ⌜ (closingOf (now (trace .entry)) (now (held .exit)) r ≡ closing k count (requestsFrom (now (trace .entry)) at .held) (take n (now (held .entry))))
+        × Cursor (now (trace .entry)) k at r ⌝ }
 {
     let mut from = at;
     let mut left = count;
@@ -73,8 +74,11 @@ pub(crate) fn close_open(
     from: usize,
     fetches: usize,
 ) -> Closing
-    requires { ⌜ ((0 < at) × (0 < count) × (count ≤ length (requestsFrom (now trace) at .held))) × ((n ≤ k) × (k ≤ length (now held)) × (from + 10 * fetches ≤ length (now schedule))) ⌝ }
-    ensures { λ r. ⌜ (closingOf (now (trace .entry)) (now (held .exit)) r ≡ closing k count (requestsFrom (now (trace .entry)) at .held) (take n (now (held .entry)) ++ fetchedPages (now (schedule .entry)) from fetches)) × Cursor (now (trace .entry)) k at r ⌝ }
+    requires { ⌜ ((0 < at) × (0 < count) × (count ≤ length (requestsFrom (now trace) at .held)))
+        × ((n ≤ k) × (k ≤ length (now held)) × (from + 10 * fetches ≤ length (now schedule))) ⌝ }
+    ensures { λ r. ⌜ (closingOf (now (trace .entry)) (now (held .exit)) r
+        ≡ closing k count (requestsFrom (now (trace .entry)) at .held) (take n (now (held .entry)) ++ fetchedPages (now (schedule .entry)) from fetches))
+        × Cursor (now (trace .entry)) k at r ⌝ }
 {
     if fetches > k - n {
         return Closing::Overfull;

@@ -39,7 +39,8 @@ fn arrive(
     u: usize,
 ) -> Step
     requires { ⌜ Sound k requests (now trace) (now schedule) place × (k ≤ length (now held)) ⌝ }
-    ensures { λ r. ⌜ (stepOf (now (trace .entry)) (now (schedule .entry)) (now (held .exit)) r ≡ arrived k u (standing (now (trace .entry)) (now (schedule .entry)) (now (held .entry)) place)) × SoundStep k requests (now (trace .entry)) (now (schedule .entry)) (place .from + 10 * place .fetches) r ⌝ }
+    ensures { λ r. ⌜ (stepOf (now (trace .entry)) (now (schedule .entry)) (now (held .exit)) r ≡ arrived k u (standing (now (trace .entry)) (now (schedule .entry)) (now (held .entry)) place))
+        × SoundStep k requests (now (trace .entry)) (now (schedule .entry)) (place .from + 10 * place .fetches) r ⌝ }
 {
     let t = place.t;
     if u < t {
@@ -90,8 +91,11 @@ pub(crate) fn bundle(
     pages: usize,
     next: usize,
 ) -> Step
-    requires { ⌜ Sound k requests (now trace) (now schedule) place × (k ≤ length (now held)) × (pages + 4 * count ≤ next) × (place .from + 10 * place .fetches < next) × (next ≤ length (now schedule)) ⌝ }
-    ensures { λ r. ⌜ (stepOf (now (trace .entry)) (now (schedule .entry)) (now (held .exit)) r ≡ stepped k (ev t (nums32 count (drop pages (now (schedule .entry))))) (standing (now (trace .entry)) (now (schedule .entry)) (now (held .entry)) place)) × SoundStep k requests (now (trace .entry)) (now (schedule .entry)) next r ⌝ }
+    requires { ⌜ Sound k requests (now trace) (now schedule) place × (k ≤ length (now held)) × (pages + 4 * count ≤ next) × (place .from + 10 * place .fetches < next)
+        × (next ≤ length (now schedule)) ⌝ }
+    ensures { λ r. ⌜ (stepOf (now (trace .entry)) (now (schedule .entry)) (now (held .exit)) r
+        ≡ stepped k (ev t (nums32 count (drop pages (now (schedule .entry))))) (standing (now (trace .entry)) (now (schedule .entry)) (now (held .entry)) place))
+        × SoundStep k requests (now (trace .entry)) (now (schedule .entry)) next r ⌝ }
 {
     match arrive(trace, schedule, held, k, requests, place, t) {
         Step::Stop(number) => Step::Stop(number),
@@ -127,8 +131,11 @@ pub(crate) fn fetch(
     t: usize,
     page: u32,
 ) -> Step
-    requires { ⌜ Sound k requests (now trace) (now schedule) place × (k ≤ length (now held)) × (place .from + 10 * place .fetches + 10 ≤ length (now schedule)) × (page ≡ num32 (drop (place .from + 10 * place .fetches + 6) (now schedule))) ⌝ }
-    ensures { λ r. ⌜ (stepOf (now (trace .entry)) (now (schedule .entry)) (now (held .exit)) r ≡ stepped k (pf t page) (standing (now (trace .entry)) (now (schedule .entry)) (now (held .entry)) place)) × SoundStep k requests (now (trace .entry)) (now (schedule .entry)) (place .from + 10 * place .fetches + 10) r ⌝ }
+    requires { ⌜ Sound k requests (now trace) (now schedule) place × (k ≤ length (now held)) × (place .from + 10 * place .fetches + 10 ≤ length (now schedule))
+        × (page ≡ num32 (drop (place .from + 10 * place .fetches + 6) (now schedule))) ⌝ }
+    ensures { λ r. ⌜ (stepOf (now (trace .entry)) (now (schedule .entry)) (now (held .exit)) r
+        ≡ stepped k (pf t page) (standing (now (trace .entry)) (now (schedule .entry)) (now (held .entry)) place))
+        × SoundStep k requests (now (trace .entry)) (now (schedule .entry)) (place .from + 10 * place .fetches + 10) r ⌝ }
 {
     match arrive(trace, schedule, held, k, requests, place, t) {
         Step::Stop(number) => Step::Stop(number),

@@ -80,7 +80,8 @@ fn next_record(
     place: Place,
 ) -> Turn
     requires { ⌜ Sound k requests (now trace) (now schedule) place × (k ≤ length (now held)) ⌝ }
-    ensures { λ r. ⌜ (turnAnswer k a (now (trace .entry)) (now (schedule .entry)) (now (held .exit)) r ≡ placeAnswer k a (now (trace .entry)) (now (schedule .entry)) (now (held .entry)) place) × SoundTurn k requests (now (trace .entry)) (now (schedule .entry)) place r ⌝ }
+    ensures { λ r. ⌜ (turnAnswer k a (now (trace .entry)) (now (schedule .entry)) (now (held .exit)) r ≡ placeAnswer k a (now (trace .entry)) (now (schedule .entry)) (now (held .entry)) place)
+        × SoundTurn k requests (now (trace .entry)) (now (schedule .entry)) place r ⌝ }
 {
     let at = place.from + 10 * place.fetches;
     match schedule_within(schedule, at, a) {

@@ -224,7 +224,8 @@ module _ (k a t p : ℕ) (ps held : List ℕ) (f : Bool) (b : ℕ) (es : List En
         },
       )
 
-  pf-good : (page : ℕ) → Good k a (pf t page ∷ es) (at t p ps held f b) → (acted (pf t page) (at t p ps held f b) ≡ on (afterPf page (at t p ps held f b))) × Good k a es (afterPf page (at t p ps held f b))
+  pf-good : (page : ℕ) → Good k a (pf t page ∷ es) (at t p ps held f b)
+      → (acted (pf t page) (at t p ps held f b) ≡ on (afterPf page (at t p ps held f b))) × Good k a es (afterPf page (at t p ps held f b))
   pf-good page g =
       let o = and-r (follows (mark t f) (pf t page)) (inOrder (pf t page ∷ es)) (g .ordered) in
       let law = sym (pf-legal k a t p page ps held es o) ∙ g .lawful in

@@ -140,7 +140,8 @@ walk-next sizes i total at e was low h =
           (λ q. low j (omega tests)),
     )
 
-pub walk-broken : (s : ℕ) (sizes : List ℕ) (i total at : ℕ) → at ≡ i → i ≤ s → total ≡ sumBelow i sizes → ((j : ℕ) → j < i → sumBelow (suc j) sizes ≤ j) → at < total + getD sizes at 0
+pub walk-broken : (s : ℕ) (sizes : List ℕ) (i total at : ℕ) → at ≡ i → i ≤ s → total ≡ sumBelow i sizes
+    → ((j : ℕ) → j < i → sumBelow (suc j) sizes ≤ j) → at < total + getD sizes at 0
     → Walked s sizes (BrokenAt i)
 walk-broken s sizes i total at e l was low h =
     let sum : total + getD sizes at 0 ≡ sumBelow (suc i) sizes = rw (e, was) in

@@ -167,7 +167,8 @@ present-bad s (suc j) sizes h was none = sym (was ∙ and-false-l _ _ (le-ltb 0 
 pub present-end : (s i : ℕ) (sizes : List ℕ) → i ≤ 0 → presentIn s sizes ≡ presentIn i sizes → true ≡ presentIn s sizes
 present-end s i sizes h was = let e : i ≡ 0 = omega arith in sym (was ∙ rw e)
 
-pub single-next : (limit s i : ℕ) (sizes : List ℕ) → limit < i → singleIn limit s sizes ≡ singleIn limit i sizes → getD sizes i 0 ≤ 1 → singleIn limit s sizes ≡ singleIn limit (i - 1) sizes
+pub single-next : (limit s i : ℕ) (sizes : List ℕ) → limit < i → singleIn limit s sizes ≡ singleIn limit i sizes → getD sizes i 0 ≤ 1
+    → singleIn limit s sizes ≡ singleIn limit (i - 1) sizes
 unfolding _or_
 single-next limit s zero sizes h was few = absurd (omega arith)
 single-next limit s (suc j) sizes h was few =

@@ -40,7 +40,8 @@ module _ (run : LayersRun) (pages numbers : List ℕ) where
   unfolding stateRefusal
   state-uneven e u rest = sizes-pass (run .k) (run .a) _ e ∙ rw (ne-eqb (length pages) (length numbers) u)
 
-  pub state-ill : sizesRefusal (run .k) (run .a) 0 ≡ 0 → length pages ≡ length numbers → layersWellFormed run (rowsOf numbers pages) ≡ false → (rest : ℕ) → stateRefusal run pages numbers rest ≡ 9
+  pub state-ill : sizesRefusal (run .k) (run .a) 0 ≡ 0 → length pages ≡ length numbers → layersWellFormed run (rowsOf numbers pages) ≡ false → (rest : ℕ)
+      → stateRefusal run pages numbers rest ≡ 9
   unfolding stateRefusal
   state-ill e u w rest = sizes-pass (run .k) (run .a) _ e ∙ rw (eq-eqb (length pages) (length numbers) u, w)
 
@@ -143,8 +144,10 @@ module _ (run : LayersRun) (pages numbers : List ℕ) (p : ℕ) where
           )
 
 -- lists that make the same rows are the same
-pub pages-same : (numbers pages numbers′ pages′ : List ℕ) → length pages ≡ length numbers → length pages′ ≡ length numbers′ → rowsOf numbers′ pages′ ≡ rowsOf numbers pages → pages′ ≡ pages
+pub pages-same : (numbers pages numbers′ pages′ : List ℕ) → length pages ≡ length numbers → length pages′ ≡ length numbers′
+    → rowsOf numbers′ pages′ ≡ rowsOf numbers pages → pages′ ≡ pages
 pages-same numbers pages numbers′ pages′ l l′ e = sym (pages-back numbers′ pages′ l′) ∙ ap pagesOf e ∙ pages-back numbers pages l
 
-pub numbers-same : (numbers pages numbers′ pages′ : List ℕ) → length pages ≡ length numbers → length pages′ ≡ length numbers′ → rowsOf numbers′ pages′ ≡ rowsOf numbers pages → numbers′ ≡ numbers
+pub numbers-same : (numbers pages numbers′ pages′ : List ℕ) → length pages ≡ length numbers → length pages′ ≡ length numbers′
+    → rowsOf numbers′ pages′ ≡ rowsOf numbers pages → numbers′ ≡ numbers
 numbers-same numbers pages numbers′ pages′ l l′ e = sym (numbers-back numbers′ pages′ l′) ∙ ap numbersOf e ∙ numbers-back numbers pages l

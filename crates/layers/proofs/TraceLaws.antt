@@ -221,7 +221,8 @@ module _ (k a s p places used m : ℕ) (rows before after : List Row) (r : Stepp
 
 -- the same on the two lists
 pub stepped-lists : (k a : ℕ) (trace : List ℕ) (s p joins used i places m n : ℕ) (ns ps ns′ ps′ : List ℕ) (r : Stepped) → length ps ≡ places → length ns ≡ length ps
-    → ServedSoFar k a trace places (rowsOf ns ps) s joins used i → m ≡ min (used + 1) (length ps) → n ≡ length (take m ps) → length ps′ ≡ length (take m ps) → length ns′ ≡ length (take m ns)
+    → ServedSoFar k a trace places (rowsOf ns ps) s joins used i → m ≡ min (used + 1) (length ps) → n ≡ length (take m ps) → length ps′ ≡ length (take m ps)
+    → length ns′ ≡ length (take m ns)
     → SteppedTo k a s p n (rowsOf (take m ns) (take m ps)) (rowsOf ns′ ps′) r
     → SteppedTo k a s p places (rowsOf ns ps) (rowsOf (ns′ ++ drop m ns) (ps′ ++ drop m ps)) r
 stepped-lists k a trace s p joins used i places m n ns ps ns′ ps′ r size len Y m-is n-is lp ln told =

@@ -11,7 +11,7 @@ use borrow.Author.Tests.{lt-ltb, le-ltb, le-leb, eqb-true}
 use Rattle.lists.specs.Choice.{_or_, _and_}
 use Rattle.lists.specs.Pages.{count, distinct}
 use Rattle.lists.specs.Sorting.{Row}
-use Rattle.lists.proofs.Choice.{tests, cases, split, clash, and-l, and-r, and-i, or-l, or-r, or-split}
+use Rattle.lists.proofs.Choice.{tests, cases, split, clash, and-l, and-r, or-l, or-r, or-split}
 use Rattle.lists.proofs.Pages.{count-length}
 use Rattle.lists.proofs.Sorting.{row-eq, row-split}
 use Rattle.paging.specs.Rows.{rowsOf, pagesOf, unused, usedRows, tableOf}
@@ -51,12 +51,6 @@ facts run rows w =
       single-high = and-l _ _ w6;
       single-few = and-r _ _ w6;
     }
-
-pub facts-back : (run : LayersRun) (rows : List Row) → Formed run rows → layersWellFormed run rows ≡ true
-unfolding layersWellFormed
-facts-back run rows f =
-    and-i _ _ (f .counted) (and-i _ _ (f .once) (and-i _ _ (f .in-order) (and-i _ _ (f .all-present)
-    (and-i _ _ (f .none-higher) (and-i _ _ (f .s-low) (and-i _ _ (f .single-high) (f .single-few)))))))
 
 -- a test that fails makes the state ill formed
 pub ill-formed : (run : LayersRun) (rows : List Row) (b : Bool) → b ≡ false → (Formed run rows → b ≡ true) → false ≡ layersWellFormed run rows

@@ -10,7 +10,8 @@ use lib.ListN.{length, take, drop}
 use borrow.Author.Tests.{eqb-true, not-true}
 use Rattle.lists.specs.Choice.{_and_}
 use Rattle.lists.specs.Pages.{mem, without, toEnd, erase, eraseAll, distinct, bit, count}
-use Rattle.lists.proofs.Choice.{cases, split, clash, and-l, and-r, and-i, or-l, or-r, or-split, or-none, or-none-l, or-none-r, same-test, not-i, bit-true, bit-false, bit-le, bit-mono, eqb-self}
+use Rattle.lists.proofs.Choice.{cases, split, clash, and-l, and-r, and-i, or-l, or-r, or-split, or-none, or-none-l, or-none-r, same-test, not-i, bit-true, bit-false, bit-le}
+use Rattle.lists.proofs.Choice.{bit-mono, eqb-self}
 
 -- no page stands in the list twice, by counting
 abbrev pub Once : List ℕ → Type 0

@@ -1,7 +1,7 @@
 -- Worked examples of document 01: the eight-request shift's schedule, its bytes and their length (38 suffice, 37 are too few), and an
 -- empty trace's.
 use Prim.Native.Nat.{ℕ}
-use mathlib.Core.Bool.{Bool, true, false}
+use mathlib.Core.Bool.{Bool, true}
 use mathlib.Core.List.{List, [], _∷_}
 use mathlib.Core.Path.{_≡_, refl}
 use lib.Dec.{eqb}
@@ -9,17 +9,8 @@ use lib.ListN.{length, replicate}
 use Rattle.lists.specs.Choice.{_and_, _or_}
 use Rattle.paging.specs.Min.{farther}
 use Rattle.paging.specs.Refusals.{sizesRefusal, traceRefusal}
+use Rattle.paging.proofs.Same.{samePages, every, shift}
 use Rattle.min.specs.Calls.{minSchedule, bytesRefusal, scheduleRefusal}
-
-sameBytes : List ℕ → List ℕ → Bool
-sameBytes [] [] = true
-sameBytes [] (y ∷ ys) = false
-sameBytes (x ∷ xs) [] = false
-sameBytes (x ∷ xs) (y ∷ ys) = eqb x y and sameBytes xs ys
-
--- the eight-request shift, with k 3 and a 2
-shift : List ℕ
-shift = 1 ∷ 2 ∷ 3 ∷ 4 ∷ 2 ∷ 5 ∷ 6 ∷ 1 ∷ []
 
 -- KA 3 2; EV at 3 of 3, 1; EV at 6 of 2, 4
 shiftBytes : List ℕ
@@ -31,7 +22,7 @@ shiftBytes =
 
 examples : List Bool
 examples =
-    sameBytes (minSchedule 3 2 shift) shiftBytes
+    samePages (minSchedule 3 2 shift) shiftBytes
     ∷ eqb (length (minSchedule 3 2 shift)) 38
     ∷ eqb (scheduleRefusal 3 2 shift (replicate 38 0)) 0
     ∷ eqb (scheduleRefusal 3 2 shift (replicate 37 0)) 8
@@ -41,10 +32,6 @@ examples =
     ∷ eqb (scheduleRefusal 3 4 shift []) 2
     ∷ []
 
-every : List Bool → Bool
-every [] = true
-every (b ∷ bs) = b and every bs
-
 examples-hold : every examples ≡ true
-unfolding every examples sameBytes shift shiftBytes _and_ _or_ farther sizesRefusal traceRefusal minSchedule bytesRefusal
+unfolding every examples samePages shiftBytes _and_ _or_ farther sizesRefusal traceRefusal minSchedule bytesRefusal
 examples-hold = refl

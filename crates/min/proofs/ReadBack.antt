@@ -4,7 +4,7 @@ use Prim.Native.Nat.{ℕ, suc, _+_, _*_, _≤_, _<_}
 use native.Mathlib.Nat.{zero-add, zero-mul, one-mul, add-mul}
 use native.Mathlib.Omega.{arith}
 use mathlib.Core.List.{List, [], _∷_, _++_}
-use mathlib.Core.Path.{_≡_, refl, sym, _∙_, ap}
+use mathlib.Core.Path.{_≡_, sym, _∙_, ap}
 use lib.Dec.{ltb}
 use lib.ListN.{length, length-append}
 use lib.Seq.{length-take-le}
@@ -14,9 +14,10 @@ use Rattle.lists.specs.Sorting.{sortBy}
 use Rattle.lists.proofs.Choice.{tests, cases}
 use Rattle.lists.proofs.Sorting.{length-sort}
 use Rattle.paging.specs.Min.{farther, minRule, bestCount}
-use Rattle.paging.specs.Policy.{Rule, Kind, hit, load, bundled, isBundled, kindOf, serve, kinds, bundles}
+use Rattle.paging.specs.Policy.{Kind, hit, load, bundled, isBundled, kindOf, serve, kinds, bundles}
 use Rattle.paging.specs.Refusals.{SizesRight}
 use Rattle.paging.specs.Schedule.{ev, entriesCost}
+use Rattle.paging.proofs.Runs.{bundles-cost}
 use Rattle.records.specs.Bytes.{evBytes, entryBytes, joined, evLength, scheduleBytes, AllWritable}
 use Rattle.records.proofs.Lengths.{length-evBytes}
 use Rattle.reading.specs.Files.{entriesFrom}
@@ -69,17 +70,6 @@ bundles-length k a t (p ∷ ps) later held h =
     let d : (1 + c) * evLength a ≡ evLength a + c * evLength a
     = add-mul 1 c (evLength a) ∙ ap (λ (m : ℕ). m + c * evLength a) (one-mul (evLength a)) in
     length-append (evBytes t bundle) rest ∙ ap (λ (m : ℕ). m + length rest) l ∙ ap (λ (m : ℕ). evLength a + m) i ∙ sym d)
-
-bundles-cost : (rule : Rule) (k t : ℕ) (trace later held : List ℕ)
-    → entriesCost (bundles rule k t trace later held) ≡ count isBundled (kinds rule k trace later held)
-bundles-cost rule k t [] later held = refl
-bundles-cost rule k t (p ∷ ps) later held =
-    let after = serve rule k p (ps ++ later) held in
-    let i = bundles-cost rule k (suc t) ps later after in
-    kind-of-cases
-    (λ kind. entriesCost (pick (isBundled kind) (ev t (rule (ps ++ later) held) ∷ bundles rule k (suc t) ps later after) (bundles rule k (suc t) ps later after))
-    ≡ bit (isBundled kind) + count isBundled (kinds rule k ps later after))
-    k p held (omega (arith, i)) (omega (arith, i)) (λ g. omega (arith, i))
 
 -- The theorems
 

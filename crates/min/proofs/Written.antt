@@ -16,7 +16,7 @@ use Rattle.paging.specs.Policy.{Kind, hit, load, bundled, isBundled, kindNumber
 use Rattle.paging.specs.Schedule.{Entry}
 use Rattle.wire.specs.Numbers.{placed}
 use Rattle.wire.proofs.Numbers.{length-placed, placed-join}
-use Rattle.records.specs.Bytes.{kaBytes, evBytes, entryBytes, joined, evLength, tableEntry, scheduleBytes}
+use Rattle.records.specs.Bytes.{kaBytes, evBytes, entryBytes, joined, evLength, scheduleBytes}
 use Rattle.records.specs.Writing.{putLength, putBytes, pagesRefused}
 use Rattle.records.proofs.Lengths.{length-evBytes}
 use Rattle.records.proofs.Writing.{pages-fine}
@@ -82,9 +82,6 @@ back-placed out at b =
     rw (e, f, g, append-nil (b ++ drop (at + length b) out)) (sym (append-assoc (take at out) b (drop (at + length b) out)))
 
 -- Lengths
-
-pub table-is : (n : ℕ) → n ≤ 256 → tableEntry n ≡ evLength n
-table-is n h = rw (le-ltb 256 n h)
 
 pub product-fits : (b e : ℕ) → b ≤ 65536 → e ≤ 1032 → b * e ≤ 67633152
 product-fits b e h g = omega (arith, mul-le-mul-right e h, mul-le-mul-left 65536 g)

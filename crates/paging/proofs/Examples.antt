@@ -1,60 +1,24 @@
 -- The definitions computed on worked examples of document 01, in one table with one theorem over it. An edit of a definition that
 -- document 01 rules out changes an entry.
 use Prim.Native.Nat.{ℕ}
-use mathlib.Core.Bool.{Bool, true, false, not}
+use mathlib.Core.Bool.{Bool, true, not}
 use mathlib.Core.List.{List, [], _∷_}
 use mathlib.Core.Path.{_≡_, refl}
 use lib.Dec.{eqb}
 use lib.ListN.{take}
 use Rattle.lists.specs.Choice.{_and_, _or_}
-use Rattle.lists.specs.Sorting.{Row, rowBefore}
+use Rattle.lists.specs.Sorting.{rowBefore}
 use Rattle.paging.specs.Layers.{Layers, noLayers, layersAfter, joinCount, possible, breaksAt}
 use Rattle.paging.specs.Lru.{lruRule}
 use Rattle.paging.specs.Min.{minRule, bestCount, minLoads, farther}
 use Rattle.paging.specs.Policy.{bundles, bundleCount, loadCount}
+use Rattle.paging.specs.Rows.{pagesOf, numbersOf}
 use Rattle.paging.specs.Schedule.{Entry, ev, pf, serves, entriesCost}
-use Rattle.paging.specs.Table.{rowsAfter, numberIn, revealed}
-
-samePages : List ℕ → List ℕ → Bool
-samePages [] [] = true
-samePages [] (q ∷ qs) = false
-samePages (p ∷ ps) [] = false
-samePages (p ∷ ps) (q ∷ qs) = eqb p q and samePages ps qs
-
-sameEntries : List Entry → List Entry → Bool
-sameEntries [] [] = true
-sameEntries [] (e ∷ es) = false
-sameEntries (e ∷ es) [] = false
-sameEntries (ev t ps ∷ es) (ev u qs ∷ fs) = eqb t u and samePages ps qs and sameEntries es fs
-sameEntries (ev t ps ∷ es) (pf u q ∷ fs) = false
-sameEntries (pf t p ∷ es) (ev u qs ∷ fs) = false
-sameEntries (pf t p ∷ es) (pf u q ∷ fs) = eqb t u and eqb p q and sameEntries es fs
-
--- the rows after a trace, with s
-record Tabled : Type 0 where
-  rows : List Row
-  s : ℕ
-
-tabled : (k a : ℕ) → List ℕ → Tabled → Tabled
-tabled k a [] T = T
-tabled k a (p ∷ ps) T =
-    let next = rowsAfter k a (T .s) p (T .rows) in
-    tabled k a ps (record { rows = next; s = numberIn next p })
+use Rattle.paging.specs.Table.{revealed, Tabled, nothingYet, tabledAfter}
+use Rattle.paging.proofs.Same.{samePages, sameEntries, every, shift}
 
 table : (k a : ℕ) → List ℕ → Tabled
-table k a trace = tabled k a trace (record { rows = []; s = 0 })
-
-numbersOf : List Row → List ℕ
-numbersOf [] = []
-numbersOf (row ∷ rows) = row .number ∷ numbersOf rows
-
-pagesOf : List Row → List ℕ
-pagesOf [] = []
-pagesOf (row ∷ rows) = row .page ∷ pagesOf rows
-
--- the eight-request shift, with k 3 and a 2
-shift : List ℕ
-shift = 1 ∷ 2 ∷ 3 ∷ 4 ∷ 2 ∷ 5 ∷ 6 ∷ 1 ∷ []
+table k a trace = tabledAfter k a trace nothingYet
 
 minShift : List Entry
 minShift = ev 3 (3 ∷ 1 ∷ []) ∷ ev 6 (2 ∷ 4 ∷ []) ∷ []
@@ -108,10 +72,6 @@ examples =
     ∷ not (serves 3 2 (1 ∷ 2 ∷ []) (pf 1 1 ∷ []))
     ∷ []
 
-every : List Bool → Bool
-every [] = true
-every (b ∷ bs) = b and every bs
-
 examples-hold : every examples ≡ true
-unfolding every examples seven minShift lruShift shift pagesOf numbersOf table tabled samePages sameEntries _and_ _or_ rowBefore farther
+unfolding every examples seven minShift lruShift table samePages sameEntries _and_ _or_ rowBefore farther
 examples-hold = refl

@@ -184,7 +184,8 @@ moves-join k a s pos le full = record {
   thin-few = λ t. absurd (omega arith);
 }
 
-lift-is : (k a i n : ℕ) → ((i ≤ n) × (renumbered lift k a i n ≡ n - 1)) ⊎ ((n < i) × (renumbered lift k a i n ≡ n))
+-- 1c: a number from i up falls by one
+pub lift-is : (k a i n : ℕ) → ((i ≤ n) × (renumbered lift k a i n ≡ n - 1)) ⊎ ((n < i) × (renumbered lift k a i n ≡ n))
 lift-is k a i n = cases (leb i n) (λ e. inl (omega tests, rw e)) (λ e. inr (omega tests, rw e))
 
 lift-thin : (k a i s limit : ℕ) → 0 < i → i ≤ s → Thin lift k a i s limit
@@ -327,7 +328,8 @@ module _ (rule : LayerRule) (k a s p : ℕ) (rows : List Row) (F : FormedRows k 
               F .once q,
               count-mono (stays rule k a i p (λ row. eqb (row .page) q)) (λ row. eqb (row .page) q) rows (λ row t. and-l _ _ (and-l _ _ t)),
             ));
-        sorted = sorted-snoc (othersAfter rule k a i p rows) last (sorted-sort rowBefore row-order (filter aboveZero (map (renumberedRow rule k a i) (filter (λ row. not (eqb (row .page) p)) rows))))
+        sorted = sorted-snoc (othersAfter rule k a i p rows) last
+            (sorted-sort rowBefore row-order (filter aboveZero (map (renumberedRow rule k a i) (filter (λ row. not (eqb (row .page) p)) rows))))
             (others-count rule k a i p (λ row. rowBefore last row) rows
             ∙ others-low (λ row. rowBefore last row) (λ row t. split (row-split last row t) (λ d. omega arith) (λ d. omega arith)));
         all-present = λ j h g. cases (ltb j top)

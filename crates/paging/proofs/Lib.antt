@@ -1,3 +1,4 @@
+pub mod Same
 pub mod Examples
 pub mod Runs
 pub mod Refusals

@@ -110,7 +110,8 @@ table-agrees k a s p rows q =
     rw e (omega arith))
 
 -- the same of the whole map, with s
-pub table-step : (k a s p : ℕ) (rows : List Row) → layered k a p (record { of = numberIn rows; top = s }) ≡ record { of = numberIn (rowsAfter k a s p rows); top = topAfter (ruleIn k s p rows) k a s }
+pub table-step : (k a s p : ℕ) (rows : List Row)
+    → layered k a p (record { of = numberIn rows; top = s }) ≡ record { of = numberIn (rowsAfter k a s p rows); top = topAfter (ruleIn k s p rows) k a s }
 table-step k a s p rows =
     λ i. record { of = λ q. sym (table-agrees k a s p rows q) i; top = topAfter (ruleIn k s p rows) k a s }
 

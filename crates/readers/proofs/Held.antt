@@ -98,7 +98,8 @@ module _ (R : Held) where
     own-made 𝓤 H A v {Q} = subst (λ (w : Fields). ent 𝓤 Q (sem 𝓤 H A (Struct (shape the-type) .own w (value v ∷ [])))) (sym (R .made v))
 
     -- what a reader owns can be had twice, and of one copy what the file owns is taken out
-    pub file-out : {M : Type 1} (𝓤 : URA M) (H : Heap 𝓤) (A : Atoms 𝓤) (W : Given 𝓤 H A) (r : R .Reader) → ent 𝓤 (sem 𝓤 H A (own r)) (sep 𝓤 (sem 𝓤 H A (own-file r)) (sem 𝓤 H A (own r)))
+    pub file-out : {M : Type 1} (𝓤 : URA M) (H : Heap 𝓤) (A : Atoms 𝓤) (W : Given 𝓤 H A) (r : R .Reader)
+        → ent 𝓤 (sem 𝓤 H A (own r)) (sep 𝓤 (sem 𝓤 H A (own-file r)) (sem 𝓤 H A (own r)))
     file-out 𝓤 H A W r =
         let v = R .fields r in
         let parts = the-type .parts in

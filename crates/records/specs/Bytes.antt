@@ -3,7 +3,7 @@
 use Prim.Native.Nat.{ℕ, _+_, _*_, _<_, _≤_}
 use mathlib.Core.List.{List, [], _∷_, _++_}
 use lib.Dec.{ltb}
-use lib.ListN.{length, getD}
+use lib.ListN.{length}
 use Rattle.lists.specs.Choice.{pick}
 use Rattle.paging.specs.Refusals.{largestK}
 use Rattle.paging.specs.Schedule.{Entry, ev, pf}
@@ -44,18 +44,6 @@ evLength n = 8 + 4 * n
 -- entry n of the table of EV lengths, for n up to 256. No EV has more pages; 0 is answered for more
 abbrev pub tableEntry : ℕ → ℕ
 tableEntry n = pick (ltb largestK n) 0 (evLength n)
-
--- 32-bit numbers: pages, and what an entry names
-abbrev pub Pages : List ℕ → Type 0
-Pages xs = (i : ℕ) → getD xs i 0 < 4294967296
-
-abbrev pub Named : Entry → Type 0
-Named (ev t pages) = (t < 4294967296) × Pages pages
-Named (pf t page) = (t < 4294967296) × (page < 4294967296)
-
-abbrev pub AllNamed : List Entry → Type 0
-AllNamed [] = Unit {0}
-AllNamed (e ∷ es) = Named e × AllNamed es
 
 -- entries that have a record: an EV names 1 to 256 pages, and no more than a bound (a, for the judge)
 abbrev pub Writable : ℕ → Entry → Type 0

@@ -50,7 +50,7 @@ module _ (k a : ℕ) (trace : List ℕ) (right : SizesRight k a) (short : length
       } ≡ figures k a trace
   unfolding figures
   figures-told m l y em el ey =
-      rw (em, el, ey ∙ layers-take, accepted, accepted) refl
+      rw (em, el, ey ∙ layers-take, accepted) refl
 
 -- The whole input
 

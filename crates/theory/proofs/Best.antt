@@ -13,12 +13,13 @@ use Rattle.paging.specs.Layers.{noLayers, layerRules, joinCount}
 use Rattle.paging.specs.Min.{minRule, bestCount, minLoads}
 use Rattle.paging.specs.Policy.{Rule, isBundled, isLoad, kinds, bundles}
 use Rattle.paging.specs.Schedule.{Entry, Turn, afterTurn, turnLegal, legal, cost, turnsFrom, serves, entriesCost}
+use Rattle.paging.proofs.Runs.{bundles-cost}
 use Rattle.theory.specs.Farthest.{Farthest}
 use Rattle.theory.specs.Loads.{fromL0}
 use Rattle.theory.proofs.Layers.{layers-count-min-bundles, layers-count-min-loads}
 use Rattle.theory.proofs.Optimal.{farthest-is-optimal}
 use Rattle.theory.proofs.Orders.{minRule-is-farthest}
-use Rattle.theory.proofs.Schedules.{cost-of-entries, bundles-serve, bundles-cost}
+use Rattle.theory.proofs.Schedules.{cost-of-entries, bundles-serve}
 
 module _ (k a : ℕ) (pos : 1 ≤ a) (le : a ≤ k) where
   -- every rule that takes farthest pages makes as many bundles and loads

@@ -43,6 +43,7 @@ pagesEvicted [] = 0
 pagesEvicted (ev t pages ∷ es) = length pages + pagesEvicted es
 pagesEvicted (pf t page ∷ es) = pagesEvicted es
 
-pub pages-for-cost-fails : (serves 3 2 (1 ∷ 2 ∷ 3 ∷ 4 ∷ []) (ev 3 (1 ∷ []) ∷ []) ≡ true) × (pagesEvicted (ev 3 (1 ∷ []) ∷ []) < pagesEvicted (bundles (minRule 2) 3 0 (1 ∷ 2 ∷ 3 ∷ 4 ∷ []) [] []))
+pub pages-for-cost-fails : (serves 3 2 (1 ∷ 2 ∷ 3 ∷ 4 ∷ []) (ev 3 (1 ∷ []) ∷ []) ≡ true)
+    × (pagesEvicted (ev 3 (1 ∷ []) ∷ []) < pagesEvicted (bundles (minRule 2) 3 0 (1 ∷ 2 ∷ 3 ∷ 4 ∷ []) [] []))
 unfolding _and_ _or_ farther
 pages-for-cost-fails = (refl, ltb→lt 1 2 tt)

@@ -3,7 +3,6 @@ use Prim.Native.Nat.{ℕ, suc, _+_, _-_, _≤_, _<_, min}
 use native.Mathlib.Omega.{arith}
 use mathlib.Core.Bool.{Bool, true, false}
 use mathlib.Core.List.{List, [], _∷_, _++_}
-use mathlib.Core.Logic.{_⊎_, inl, inr}
 use mathlib.Core.Path.{_≡_, refl, _∙_}
 use lib.Dec.{eqb, leb, ltb}
 use lib.ListN.{length, take, length-append}
@@ -11,9 +10,11 @@ use borrow.Author.Tests.{eqb-true, ltb-true, ltb-false, leb-true, le-leb}
 use Rattle.lists.specs.Choice.{pick, _and_}
 use Rattle.lists.specs.Pages.{mem, without, toEnd, eraseAll, bit, count}
 use Rattle.lists.proofs.Choice.{tests, cases, split, clash, and-l, and-r, and-i, and-false-l, or-l, or-r, or-split, bit-true, bit-false, bit-le, eqb-self, eqb-sym}
-use Rattle.lists.proofs.Pages.{Once, count-snoc, count-length, count-mono, count-members, count-none, count-all, count-some, count-without-once, mem-snoc, mem-append-l, mem-kept, mem-eraseAll-kept, count-eraseAll-le, once-snoc, once-toEnd, once-eraseAll, toEnd-same, length-same, mem-eraseAll, without-gone}
+use Rattle.lists.proofs.Pages.{Once, count-snoc, count-length, count-mono, count-members, count-none, count-all, count-some, count-without-once, mem-snoc, mem-append-l, mem-kept}
+use Rattle.lists.proofs.Pages.{mem-eraseAll-kept, count-eraseAll-le, once-snoc, once-toEnd, once-eraseAll, toEnd-same, length-same, mem-eraseAll, without-gone}
 use Rattle.paging.specs.Layers.{Layers, noLayers, LayerRule, append, join, lift, layerRule, renumbered, topAfter, layered}
 use Rattle.paging.specs.Policy.{Rule, Kind, hit, load, bundled, kindOf, serve}
+use Rattle.paging.proofs.Forming.{lift-is}
 use Rattle.theory.specs.Farthest.{Farthest}
 use Rattle.theory.proofs.Bundles.{count-taken, length-taken, taken-held, not-absent, absent-after, farthest-cut}
 
@@ -105,9 +106,7 @@ agree-append k a L p σ held A m z s =
     lower : (i q : ℕ) → leb (layeredBy append k a p L .of q) i ≡ true → leb (L .of q) i ≡ true
     lower i q h = cases (eqb q p) (λ e. rw (eqb-true q p e, z) (omega tests)) (λ e. rw e at h)
 
--- 1c: a number from i up falls by one
-lift-is : (k a i n : ℕ) → ((i ≤ n) × (renumbered lift k a i n ≡ n - 1)) ⊎ ((n < i) × (renumbered lift k a i n ≡ n))
-lift-is k a i n = cases (leb i n) (λ e. inl (omega tests, rw e)) (λ e. inr (omega tests, rw e))
+-- 1c
 
 module _ (k a : ℕ) (L : Layers) (p : ℕ) (σ held : List ℕ) (A : Agree k L (p ∷ σ) held) (m : mem p held ≡ true) (pos : 0 < L .of p) where
   lift-below : (i : ℕ) → i < L .top → count (λ q. leb (layeredBy lift k a p L .of q) i) (toEnd p held) ≤ i
@@ -154,7 +153,8 @@ module _ (k a : ℕ) (L : Layers) (p : ℕ) (σ held : List ℕ) (A : Agree k L 
       c : Cut L (take (suc T) (p ∷ σ)) held
       c = A .cut (suc T)
 
-      kept : count (λ q. leb (L .of q) (c .at) and mem q (take (suc T) (p ∷ σ))) (without p held) + bit (leb (L .of p) (c .at) and mem p (take (suc T) (p ∷ σ))) ≡ count (λ q. leb (L .of q) (c .at) and mem q (take (suc T) (p ∷ σ))) held
+      kept : count (λ q. leb (L .of q) (c .at) and mem q (take (suc T) (p ∷ σ))) (without p held) + bit (leb (L .of p) (c .at) and mem p (take (suc T) (p ∷ σ))) ≡ count
+          (λ q. leb (L .of q) (c .at) and mem q (take (suc T) (p ∷ σ))) held
       kept = count-without-once (λ q. leb (L .of q) (c .at) and mem q (take (suc T) (p ∷ σ))) p held m (A .once p)
 
       moved : (at : ℕ) → ((q : ℕ) → L .of q ≤ c .at → renumbered lift k a (L .of p) (L .of q) ≤ at)

@@ -14,7 +14,8 @@ use borrow.Author.Tests.{eqb-true}
 use Rattle.lists.specs.Choice.{_or_}
 use Rattle.lists.specs.Pages.{mem, eraseAll, count}
 use Rattle.lists.proofs.Choice.{tests, cases, split, clash, or-l, or-r, or-split, bit-true, eqb-self}
-use Rattle.lists.proofs.Pages.{Same, once-snoc, mem-same, length-same, mem-here, mem-snoc-split, count-snoc, count-length, count-mono, count-members, count-none, count-all, count-incl}
+use Rattle.lists.proofs.Pages.{Same, once-snoc, mem-same, length-same, mem-here, mem-snoc-split, count-snoc, count-length, count-mono, count-members, count-none, count-all}
+use Rattle.lists.proofs.Pages.{count-incl}
 use Rattle.theory.specs.Factor.{ceilDiv, Policy, Step}
 use Rattle.theory.proofs.Bundles.{count-taken, length-taken, Fits}
 

@@ -10,11 +10,12 @@ use lib.Dec.{eqb}
 use lib.ListN.{length}
 use borrow.Author.Tests.{ltb-true, lt-ltb, le-leb}
 use Rattle.lists.specs.Choice.{pick}
-use Rattle.lists.specs.Pages.{mem, toEnd, eraseAll, bit, count}
+use Rattle.lists.specs.Pages.{mem, toEnd, eraseAll}
 use Rattle.lists.proofs.Choice.{tests, cases, and-l, and-r, and-i, eqb-self}
 use Rattle.lists.proofs.Pages.{Same, Once, count-snoc, mem-same, length-same, without-absent, toEnd-same, once-eraseAll}
-use Rattle.paging.specs.Policy.{Rule, Kind, hit, load, bundled, isBundled, kindOf, serve, kinds, bundles}
-use Rattle.paging.specs.Schedule.{Entry, ev, pf, Turn, heldInTurn, bundlesLegal, afterBundles, fetchesLegal, withPage, afterTurn, turnLegal, legal, cost, timeOf, bundlesAt, fetchesAt, turnsFrom, inOrder, within, serves, entriesCost}
+use Rattle.paging.specs.Policy.{Rule, Kind, hit, load, bundled, isBundled, kindOf, serve, bundles}
+use Rattle.paging.specs.Schedule.{Entry, ev, pf, Turn, heldInTurn, bundlesLegal, afterBundles, fetchesLegal, withPage, afterTurn, turnLegal, legal, cost, timeOf, bundlesAt}
+use Rattle.paging.specs.Schedule.{fetchesAt, turnsFrom, inOrder, within, serves, entriesCost}
 use Rattle.theory.specs.Farthest.{Farthest}
 use Rattle.theory.proofs.Bundles.{count-taken, counted-held, by-kind, Fits, fits-serve, fits-start, absent-after}
 
@@ -123,12 +124,6 @@ turn-kind bundled t m n b rest turns h e =
     let past = turnsFrom-past (suc t) m (ev t b) rest (omega arith) ∙ e in
     λ i. record { bundles = here i; fetches = a .1 i } ∷ past i
 
-cost-kind : (x : Kind) (t : ℕ) (b : List ℕ) (rest : List Entry)
-    → entriesCost (pick (isBundled x) (ev t b ∷ rest) rest) ≡ bit (isBundled x) + entriesCost rest
-cost-kind hit t b rest = omega arith
-cost-kind load t b rest = omega arith
-cost-kind bundled t b rest = omega arith
-
 module _ (rule : Rule) (k : ℕ) where
   bundles-evs : (t : ℕ) (trace later held : List ℕ) → Evs t (t + length trace) (bundles rule k t trace later held)
   bundles-evs t [] later held = tt
@@ -150,13 +145,6 @@ module _ (rule : Rule) (k : ℕ) where
   bundles-are-turns t (p ∷ ps) later held =
       turn-kind (kindOf k p held) t (length ps) _ (rule (ps ++ later) held) _ _ (bundles-evs (suc t) ps later (serve rule k p (ps ++ later) held))
       (bundles-are-turns (suc t) ps later (serve rule k p (ps ++ later) held))
-
-  -- there are as many EVs as requests with a bundle
-  pub bundles-cost : (t : ℕ) (trace later held : List ℕ)
-      → entriesCost (bundles rule k t trace later held) ≡ count isBundled (kinds rule k trace later held)
-  bundles-cost t [] later held = refl
-  bundles-cost t (p ∷ ps) later held =
-      cost-kind (kindOf k p held) t (rule (ps ++ later) held) _ ∙ omega (arith, bundles-cost (suc t) ps later (serve rule k p (ps ++ later) held))
 
 -- Legality, where the schedule holds the pages that the rule holds, in its own order
 
@@ -190,7 +178,8 @@ module _ (k a : ℕ) (pos : 1 ≤ a) (le : a ≤ k) (rule : Rule) (F : Farthest 
           (λ m l. rw without-absent at (withPage-same p (D ++ []) M (append-same D M s) (A .once)))
           (λ m l. let b = rule later M in
           let t = taken-same b D M s (F .inHand later M (omega arith)) in
-          rw (without-absent p (eraseAll b M) (absent-after p b M m)) at (withPage-same p (eraseAll b D ++ []) (eraseAll b M) (append-same (eraseAll b D) (eraseAll b M) (t .1)) (once-eraseAll b M (A .once))))
+          rw (without-absent p (eraseAll b M) (absent-after p b M m)) at (withPage-same p (eraseAll b D ++ []) (eraseAll b M) (append-same (eraseAll b D) (eraseAll b M)
+          (t .1)) (once-eraseAll b M (A .once))))
 
       bundles-legal : bundlesLegal a (turnOf (kindOf k p M) (rule later M) .bundles) D ≡ true
       bundles-legal =

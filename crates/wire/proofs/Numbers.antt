@@ -26,12 +26,6 @@ num16-bytes16 x r = omega arith
 pub num32-bytes32 : (x : ℕ) (r : List ℕ) → num32 (bytes32 x ++ r) ≡ x
 num32-bytes32 x r = omega arith
 
-pub num16-small : (b : List ℕ) → Bytes b → num16 b < 65536
-num16-small b h = omega (arith, h 0, h 1)
-
-pub num32-small : (b : List ℕ) → Bytes b → num32 b < 4294967296
-num32-small b h = omega (arith, h 0, h 1, h 2, h 3)
-
 pub bytes-drop : (s : List ℕ) (at : ℕ) → Bytes s → Bytes (drop at s)
 bytes-drop s at h i = rw getD-drop (h (at + i))
 
@@ -93,11 +87,6 @@ allBytes32-nums32 (suc n) b h l =
     = allBytes32-nums32 n (drop 4 b) (bytes-drop b 4 h) (simp length-drop (omega arith)) in
     let f : bytes32 (num32 b) ≡ take 4 b = bytes32-num32 b h (omega arith) in
     rw (e, take-add 4 (4 * n) b, r, ← f)
-
-pub nums32-small : (n : ℕ) (b : List ℕ) → Bytes b → (i : ℕ) → getD (nums32 n b) i 0 < 4294967296
-nums32-small zero b h i = omega arith
-nums32-small (suc n) b h zero = num32-small b h
-nums32-small (suc n) b h (suc i) = nums32-small n (drop 4 b) (bytes-drop b 4 h) i
 
 -- ---- the bytes of numbers of their width are bytes
 

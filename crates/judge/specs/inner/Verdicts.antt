@@ -7,7 +7,6 @@ use Rattle.lists.specs.Choice.{pick}
 use Rattle.paging.specs.Refusals.{longestTrace}
 use Rattle.reading.specs.Files.{File, entriesFrom}
 use Rattle.judging.specs.Answer.{Answer, cost, refused}
-use Rattle.judging.specs.Files.{longestTrace}
 use Rattle.judging.specs.Judging.{judgedFrom}
 use Rattle.judge.specs.declared.entries.Place.{Place}
 use Rattle.judge.specs.declared.entries.Step as steps

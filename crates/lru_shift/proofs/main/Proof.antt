@@ -23,10 +23,32 @@ array-read-print-bundle-2 : tie.Need-array-read-print-bundle-2 Inv-loop μ-loop
 array-read-print-bundle-2 c = omega (arith, c .before .before .before .before .before .request .kept .1 .1 .1 .0)
 
 loop-again : tie.Need-loop-again Inv-loop μ-loop
-loop-again c = (omega arith, (c .before .before .before .before .before .before .before .before .before .before .loop .inv .1 .0, (c .before .before .before .before .before .before .request .kept .1 .1 .0 ∙ c .before .before .before .before .before .before .before .before .before .before .loop .inv .1 .1 .0, c .before .before .before .before .before .before .request .kept .1 .1 .1 .0 ∙ c .before .before .before .before .before .before .before .before .before .before .loop .inv .1 .1 .1)))
+loop-again c = (
+  omega arith,
+  (
+    c .before .before .before .before .before .before .before .before .before .before .loop .inv .1 .0,
+    (
+      c .before .before .before .before .before .before .request .kept .1 .1 .0
+          ∙ c .before .before .before .before .before .before .before .before .before .before .loop .inv .1 .1 .0,
+      c .before .before .before .before .before .before .request .kept .1 .1 .1 .0
+          ∙ c .before .before .before .before .before .before .before .before .before .before .loop .inv .1 .1 .1,
+    ),
+  ),
+)
 
 loop-again-2 : tie.Need-loop-again-2 Inv-loop μ-loop
-loop-again-2 c = (omega arith, (c .before .before .before .before .before .before .before .before .before .loop .inv .1 .0, (c .before .before .before .before .before .request .kept .1 .1 .0 ∙ c .before .before .before .before .before .before .before .before .before .loop .inv .1 .1 .0, c .before .before .before .before .before .request .kept .1 .1 .1 .0 ∙ c .before .before .before .before .before .before .before .before .before .loop .inv .1 .1 .1)))
+loop-again-2 c = (
+  omega arith,
+  (
+    c .before .before .before .before .before .before .before .before .before .loop .inv .1 .0,
+    (
+      c .before .before .before .before .before .request .kept .1 .1 .0
+          ∙ c .before .before .before .before .before .before .before .before .before .loop .inv .1 .1 .0,
+      c .before .before .before .before .before .request .kept .1 .1 .1 .0
+          ∙ c .before .before .before .before .before .before .before .before .before .loop .inv .1 .1 .1,
+    ),
+  ),
+)
 
 pub main-spec : {M : Type 1} → statement M
 main-spec =

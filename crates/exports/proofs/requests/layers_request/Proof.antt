@@ -8,7 +8,13 @@ use Rattle.exports.proofs.requests.layers_request.Statement.{statement}
 use Rattle.exports.proofs.requests.layers_request.Tie as tie
 
 returns : tie.Need-returns
-returns c = (toZ-ofZ {w = w64} (record { sfits = c .number .ok }) ∙ (c .number .ensures ∙ ap (λ (x : LayersReply). signed (x .refusal) (x .run .s)) (c .before .before .before .before .before .before .before .request .ensures .0)), c .before .before .before .before .before .before .before .request .ensures .1, c .before .before .before .before .before .before .before .request .ensures .2)
+returns c = (
+  toZ-ofZ {w = w64} (record { sfits = c .number .ok })
+      ∙ (c .number .ensures
+      ∙ ap (λ (x : LayersReply). signed (x .refusal) (x .run .s)) (c .before .before .before .before .before .before .before .request .ensures .0)),
+  c .before .before .before .before .before .before .before .request .ensures .1,
+  c .before .before .before .before .before .before .before .request .ensures .2,
+)
 
 pub layers-request-spec : {M : Type 1} → statement M
 layers-request-spec =

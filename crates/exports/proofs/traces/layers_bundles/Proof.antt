@@ -8,7 +8,13 @@ use Rattle.exports.proofs.traces.layers_bundles.Statement.{statement}
 use Rattle.exports.proofs.traces.layers_bundles.Tie as tie
 
 returns : tie.Need-returns
-returns c = (toZ-ofZ {w = w64} (record { sfits = c .number .ok }) ∙ (c .number .ensures ∙ ap (λ (x : LayersTotals). signed (x .refusal) (x .bundles)) (c .before .before .before .before .before .before .over-trace .ensures .0)), c .before .before .before .before .before .before .over-trace .ensures .1, c .before .before .before .before .before .before .over-trace .ensures .2)
+returns c = (
+  toZ-ofZ {w = w64} (record { sfits = c .number .ok })
+      ∙ (c .number .ensures
+      ∙ ap (λ (x : LayersTotals). signed (x .refusal) (x .bundles)) (c .before .before .before .before .before .before .over-trace .ensures .0)),
+  c .before .before .before .before .before .before .over-trace .ensures .1,
+  c .before .before .before .before .before .before .over-trace .ensures .2,
+)
 
 pub layers-bundles-spec : {M : Type 1} → statement M
 layers-bundles-spec =

@@ -11,7 +11,8 @@ use Rattle.lru.proofs.serving.run_over.Statement.{statement}
 use Rattle.lru.proofs.serving.run_over.Tie as tie
 
 abbrev Inv-loop : tie.InvT-loop
-Inv-loop k a trace cache₀ evicted₀ run₀ count₀ i₀ cache evicted run count i = (i ≤ length trace) × ((length cache ≡ 256) × ((length evicted ≡ 256) × Stands k a (take i trace) run count cache))
+Inv-loop k a trace cache₀ evicted₀ run₀ count₀ i₀ cache evicted run count i =
+    (i ≤ length trace) × ((length cache ≡ 256) × ((length evicted ≡ 256) × Stands k a (take i trace) run count cache))
 
 abbrev μ-loop : tie.MeasureT-loop
 μ-loop k a trace cache₀ evicted₀ run₀ count₀ i₀ cache evicted run count i = length trace - i

@@ -10,7 +10,8 @@ use Rattle.repeats.proofs.chains.chained_once.Statement.{statement}
 use Rattle.repeats.proofs.chains.chained_once.Tie as tie
 
 abbrev Inv-loop : tie.InvT-loop
-Inv-loop pages heads₀ before₀ mask i₀ heads before i = (i ≤ length pages) × ((length heads ≡ length heads₀) × ((length before ≡ length before₀) × Threaded mask pages heads before i))
+Inv-loop pages heads₀ before₀ mask i₀ heads before i =
+    (i ≤ length pages) × ((length heads ≡ length heads₀) × ((length before ≡ length before₀) × Threaded mask pages heads before i))
 
 abbrev μ-loop : tie.MeasureT-loop
 μ-loop pages heads₀ before₀ mask i₀ heads before i = length pages - i
