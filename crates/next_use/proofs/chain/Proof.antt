@@ -22,9 +22,10 @@ loop-again c =
     let start = c .before .before .before .before in
     let trace = start .args .trace .now in
     let pre = start .pre in
-    let before = c .before .before .before .loop .before in
-    let heads = c .before .before .before .loop .heads in
-    let inv = c .before .before .before .loop .inv in
+    let turn = c .before .before .before .loop in
+    let before = turn .before in
+    let heads = turn .heads in
+    let inv = turn .inv in
     let t = c .before .before .before .loop .t in (
       omega arith,
       (

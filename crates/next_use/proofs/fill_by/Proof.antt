@@ -42,8 +42,9 @@ walk-requires c κs =
     .before .fill-zero in
     let fill-zero2 = c .before .before .before .before .before .before .before .before .before .before .before .before .before .before .before .fill-zero2 in
     let chain = c .before .before .before .before .before .before .before .before .before .before .chain in
-    let inv = c .before .before .before .before .before .loop .inv in
-    let lefts = c .before .before .before .before .before .loop .lefts in
+    let turn = c .before .before .before .before .before .loop in
+    let inv = turn .inv in
+    let lefts = turn .lefts in
     let loop-test = c .before .before .before .before .loop-test in
     let r : length trace ≤ length lefts = omega (arith, pre .room, inv .1 .0) in
     record {

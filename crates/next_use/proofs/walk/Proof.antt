@@ -53,15 +53,17 @@ mul-told c =
 slice-read-told : tie.Need-slice-read-told Inv-loop μ-loop
 slice-read-told c =
     let pre = c .before .before .before .before .before .before .before .before .before .before .pre in
-    let inv = c .before .before .before .loop .inv in
-    let s = c .before .before .before .loop .s in
+    let turn = c .before .before .before .loop in
+    let inv = turn .inv in
+    let s = turn .s in
     omega (arith, c .before .shared-slice-known5 .given (s - 1), pre .table, inv .0)
 
 told-requires : tie.Need-told-requires Inv-loop μ-loop
 told-requires c κs =
     let trace = c .before .before .before .before .before .before .before .before .before .before .args .trace .now in
-    let inv = c .before .before .before .loop .inv in
-    let s = c .before .before .before .loop .s in
+    let turn = c .before .before .before .loop in
+    let inv = turn .inv in
+    let s = turn .s in
     inv .1 .1 .1 .1 .near (pageAt trace (s - 1) / 65536) (omega (arith, c .before .shared-slice-known5 .given (s - 1)))
 
 mul-seen : tie.Need-mul-seen Inv-loop μ-loop
@@ -73,8 +75,9 @@ mul-seen c =
 slice-write-seen : tie.Need-slice-write-seen Inv-loop μ-loop
 slice-write-seen c =
     let pre = c .before .before .before .before .before .before .before .before .before .before .before .pre in
-    let inv = c .before .before .before .before .loop .inv in
-    let s = c .before .before .before .before .loop .s in
+    let turn = c .before .before .before .before .loop in
+    let inv = turn .inv in
+    let s = turn .s in
     let shared-slice-known5 = c .before .before .shared-slice-known5 in
     omega (arith, shared-slice-known5 .given (s - 1), pre .table, inv .0)
 
@@ -86,10 +89,11 @@ loop-less c =
     let heads = start .args .heads .now in
     let trace = start .args .trace .now in
     let pre = start .pre in
-    let inv′ = c .before .before .before .before .before .loop .inv in
-    let lefts = c .before .before .before .before .before .loop .lefts in
-    let s′ = c .before .before .before .before .before .loop .s in
-    let seen = c .before .before .before .before .before .loop .seen in
+    let turn = c .before .before .before .before .before .loop in
+    let inv′ = turn .inv in
+    let lefts = turn .lefts in
+    let s′ = turn .s in
+    let seen = turn .seen in
     let shared-slice-known5 = c .before .before .before .shared-slice-known5 in
     let told = c .before .told in
     let s = s′ in
@@ -106,10 +110,11 @@ loop-again c =
     let heads = start .args .heads .now in
     let trace = start .args .trace .now in
     let pre = start .pre in
-    let inv′ = c .before .before .before .before .before .loop .inv in
-    let lefts = c .before .before .before .before .before .loop .lefts in
-    let s′ = c .before .before .before .before .before .loop .s in
-    let seen = c .before .before .before .before .before .loop .seen in
+    let turn = c .before .before .before .before .before .loop in
+    let inv′ = turn .inv in
+    let lefts = turn .lefts in
+    let s′ = turn .s in
+    let seen = turn .seen in
     let shared-slice-known5 = c .before .before .before .shared-slice-known5 in
     let told = c .before .told in
     let s = s′ in

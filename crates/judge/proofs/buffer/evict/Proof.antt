@@ -30,11 +30,12 @@ sub-m c =
 loop-again : tie.Need-loop-again Inv-loop μ-loop
 loop-again c =
     let schedule = c .before .before .before .before .before .before .before .before .before .before .args .schedule .now in
-    let offset = c .before .before .before .before .before .before .before .loop .at in
-    let held = c .before .before .before .before .before .before .before .loop .held in
-    let inv = c .before .before .before .before .before .before .before .loop .inv in
-    let left = c .before .before .before .before .before .before .before .loop .left in
-    let m = c .before .before .before .before .before .before .before .loop .m in
+    let turn = c .before .before .before .before .before .before .before .loop in
+    let offset = turn .at in
+    let held = turn .held in
+    let inv = turn .inv in
+    let left = turn .left in
+    let m = turn .m in
     let read32 = c .before .before .before .before .before .read32 in
     let take-out = c .before .before .before .take-out in
     let d = take-out .ensures .1 (c .if1 .taken) in
@@ -52,11 +53,12 @@ loop-again c =
 returns : tie.Need-returns Inv-loop μ-loop
 returns c =
     let schedule = c .before .before .before .before .before .before .before .before .before .before .args .schedule .now in
-    let offset = c .before .before .before .before .before .before .before .loop .at in
-    let held = c .before .before .before .before .before .before .before .loop .held in
-    let inv = c .before .before .before .before .before .before .before .loop .inv in
-    let left = c .before .before .before .before .before .before .before .loop .left in
-    let m = c .before .before .before .before .before .before .before .loop .m in
+    let turn = c .before .before .before .before .before .before .before .loop in
+    let offset = turn .at in
+    let held = turn .held in
+    let inv = turn .inv in
+    let left = turn .left in
+    let m = turn .m in
     let read32 = c .before .before .before .before .before .read32 in
     let take-out = c .before .before .before .take-out in
     missing _ (inv .1 .0 ∙ next-missing schedule offset left (read32 .result) m held (omega arith) (read32 .ensures) (sym (take-out .ensures .0) ∙ c .if1 .left))

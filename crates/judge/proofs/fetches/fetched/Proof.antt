@@ -22,9 +22,10 @@ returns c =
     let start = c .before .before .before .before .before in
     let page = start .args .page in
     let schedule = start .args .schedule .now in
-    let offset = c .before .before .before .loop .at in
-    let inv = c .before .before .before .loop .inv in
-    let left = c .before .before .before .loop .left in
+    let turn = c .before .before .before .loop in
+    let offset = turn .at in
+    let inv = turn .inv in
+    let left = turn .left in
     let read32 = c .before .read32 in
     sym (inv .1 ∙ fetched-here schedule offset left page (read32 .result) (omega arith) (read32 .ensures) (c .if1 .taken))
 
@@ -33,9 +34,10 @@ loop-again c =
     let start = c .before .before .before .before .before in
     let page = start .args .page in
     let schedule = start .args .schedule .now in
-    let offset = c .before .before .before .loop .at in
-    let inv = c .before .before .before .loop .inv in
-    let left = c .before .before .before .loop .left in
+    let turn = c .before .before .before .loop in
+    let offset = turn .at in
+    let inv = turn .inv in
+    let left = turn .left in
     let read32 = c .before .read32 in
     (omega arith, inv .1 ∙ fetched-next schedule offset left page (read32 .result) (omega arith) (read32 .ensures) (c .if1 .left))
 

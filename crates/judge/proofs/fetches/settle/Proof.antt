@@ -22,10 +22,11 @@ loop-holds c = (refl, refl, refl, refl)
 loop-again : tie.Need-loop-again Inv-loop μ-loop
 loop-again c =
     let schedule = c .before .before .before .before .before .args .schedule .now in
-    let offset = c .before .before .loop .at in
-    let held = c .before .before .loop .held in
-    let inv = c .before .before .loop .inv in
-    let left = c .before .before .loop .left in
+    let turn = c .before .before .loop in
+    let offset = turn .at in
+    let held = turn .held in
+    let inv = turn .inv in
+    let left = turn .left in
     let m = c .before .before .loop .m in (
       omega arith,
       omega arith,

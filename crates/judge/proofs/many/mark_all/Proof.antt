@@ -31,9 +31,10 @@ loop-again c =
     let start = c .before .before .before .before .before .before .before .before .before in
     let from = start .args .from in
     let schedule = start .args .schedule .now in
-    let done = c .before .before .before .before .before .before .loop .done in
-    let inv = c .before .before .before .before .before .before .loop .inv in
-    let marks = c .before .before .before .before .before .before .loop .marks in
+    let turn = c .before .before .before .before .before .before .loop in
+    let done = turn .done in
+    let inv = turn .inv in
+    let marks = turn .marks in
     let read32 = c .before .before .before .before .read32 in
     let mark = c .before .before .mark in
     (omega arith, mark .kept .0 ∙ inv .1, mark-next schedule from done marks (mark .last .0) (read32 .result) (inv .1) (mark .ensures) (read32 .ensures) (inv .2))

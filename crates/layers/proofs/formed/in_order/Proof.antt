@@ -49,8 +49,9 @@ loop-again c =
     let numbers = start .args .numbers .now in
     let pages = start .args .pages .now in
     let pre = start .pre in
-    let i = c .before .before .before .before .before .before .before .loop .i in
-    let inv = c .before .before .before .before .before .before .before .loop .inv in
+    let turn = c .before .before .before .before .before .before .before .loop in
+    let i = turn .i in
+    let inv = turn .inv in
     let loop-test = c .before .before .before .before .before .before .loop-test in
     (omega arith, omega arith, order-next numbers pages pre i (loop-test .taken) _ (c .before .may-follow .ensures) (inv .2) (c .if3 .taken))
 
@@ -60,8 +61,9 @@ returns-2 c =
     let numbers = start .args .numbers .now in
     let pages = start .args .pages .now in
     let pre = start .pre in
-    let i = c .before .before .before .before .before .before .before .loop .i in
-    let inv = c .before .before .before .before .before .before .before .loop .inv in
+    let turn = c .before .before .before .before .before .before .before .loop in
+    let i = turn .i in
+    let inv = turn .inv in
     let loop-test = c .before .before .before .before .before .before .loop-test in
     order-bad numbers pages pre i (loop-test .taken) _ (c .before .may-follow .ensures) (inv .2) (c .if3 .left)
 

@@ -30,8 +30,9 @@ loop-again c =
     let start = c .before .before .before .before in
     let numbers = start .args .numbers .now in
     let s = start .args .s in
-    let i = c .before .before .before .loop .i in
-    let inv = c .before .before .before .loop .inv in
+    let turn = c .before .before .before .loop in
+    let i = turn .i in
+    let inv = turn .inv in
     let loop-test = c .before .before .loop-test in
     (omega arith, above-next numbers s i (loop-test .taken) (inv .1) (c .if1 .left))
 

@@ -18,8 +18,9 @@ returns c =
     let start = c .before .before .before .before in
     let s = start .args .s in
     let sizes = start .args .sizes .now in
-    let i = c .before .before .before .loop .i in
-    let inv = c .before .before .before .loop .inv in
+    let turn = c .before .before .before .loop in
+    let i = turn .i in
+    let inv = turn .inv in
     let loop-test = c .before .before .loop-test in
     present-bad s i sizes (loop-test .taken) (inv .1) (c .if1 .taken)
 
@@ -28,8 +29,9 @@ loop-again c =
     let start = c .before .before .before .before in
     let s = start .args .s in
     let sizes = start .args .sizes .now in
-    let i = c .before .before .before .loop .i in
-    let inv = c .before .before .before .loop .inv in
+    let turn = c .before .before .before .loop in
+    let i = turn .i in
+    let inv = turn .inv in
     let loop-test = c .before .before .loop-test in
     (omega arith, present-next s i sizes (loop-test .taken) (inv .1) (c .if1 .left))
 

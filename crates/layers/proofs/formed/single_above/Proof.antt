@@ -19,8 +19,9 @@ returns c =
     let limit = start .args .limit in
     let s = start .args .s in
     let sizes = start .args .sizes .now in
-    let i = c .before .before .before .loop .i in
-    let inv = c .before .before .before .loop .inv in
+    let turn = c .before .before .before .loop in
+    let i = turn .i in
+    let inv = turn .inv in
     let loop-test = c .before .before .loop-test in
     single-bad limit s i sizes (loop-test .taken) (inv .1) (c .if1 .taken)
 
@@ -30,8 +31,9 @@ loop-again c =
     let limit = start .args .limit in
     let s = start .args .s in
     let sizes = start .args .sizes .now in
-    let i = c .before .before .before .loop .i in
-    let inv = c .before .before .before .loop .inv in
+    let turn = c .before .before .before .loop in
+    let i = turn .i in
+    let inv = turn .inv in
     let loop-test = c .before .before .loop-test in
     (omega arith, single-next limit s i sizes (loop-test .taken) (inv .1) (c .if1 .left))
 

@@ -24,9 +24,10 @@ array-read-sizes c =
 add-sizes : tie.Need-add-sizes Inv-loop μ-loop
 add-sizes c =
     let numbers = c .before .before .before .before .before .before .args .numbers .now in
-    let i = c .before .before .before .before .loop .i in
-    let inv = c .before .before .before .before .loop .inv in
-    let sizes = c .before .before .before .before .loop .sizes in
+    let turn = c .before .before .before .before .loop in
+    let i = turn .i in
+    let inv = turn .inv in
+    let sizes = turn .sizes in
     let loop-test = c .before .before .before .loop-test in
     let wide = c .before .wide in
     omega (arith, tally-low numbers sizes i (wide .result) (loop-test .taken) (inv .1) (wide .ensures) (c .if1 .taken))
@@ -39,9 +40,10 @@ array-write-sizes c =
 loop-again : tie.Need-loop-again Inv-loop μ-loop
 loop-again c =
     let numbers = c .before .before .before .before .before .before .args .numbers .now in
-    let i = c .before .before .before .before .loop .i in
-    let inv = c .before .before .before .before .loop .inv in
-    let sizes = c .before .before .before .before .loop .sizes in
+    let turn = c .before .before .before .before .loop in
+    let i = turn .i in
+    let inv = turn .inv in
+    let sizes = turn .sizes in
     let loop-test = c .before .before .before .loop-test in
     let wide = c .before .wide in
     (omega arith, tally-one numbers sizes i (wide .result) (loop-test .taken) (inv .1) (wide .ensures) (c .if1 .taken))
@@ -49,9 +51,10 @@ loop-again c =
 loop-again-2 : tie.Need-loop-again-2 Inv-loop μ-loop
 loop-again-2 c =
     let numbers = c .before .before .before .before .before .before .args .numbers .now in
-    let i = c .before .before .before .before .loop .i in
-    let inv = c .before .before .before .before .loop .inv in
-    let sizes = c .before .before .before .before .loop .sizes in
+    let turn = c .before .before .before .before .loop in
+    let i = turn .i in
+    let inv = turn .inv in
+    let sizes = turn .sizes in
     let loop-test = c .before .before .before .loop-test in
     let wide = c .before .wide in
     (omega arith, tally-skip numbers sizes i (wide .result) (loop-test .taken) (inv .1) (wide .ensures) (c .if1 .left))

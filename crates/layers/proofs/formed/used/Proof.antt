@@ -18,18 +18,20 @@ abbrev μ-loop : tie.MeasureT-loop
 loop-again : tie.Need-loop-again Inv-loop μ-loop
 loop-again c =
     let numbers = c .before .before .before .before .args .numbers .now in
-    let i = c .before .before .before .loop .i in
-    let inv = c .before .before .before .loop .inv in
-    let n = c .before .before .before .loop .n in
+    let turn = c .before .before .before .loop in
+    let i = turn .i in
+    let inv = turn .inv in
+    let n = turn .n in
     let loop-test = c .before .before .loop-test in
     (omega arith, omega arith, used-one numbers i n (loop-test .taken) (inv .2) (c .if1 .taken))
 
 loop-again-2 : tie.Need-loop-again-2 Inv-loop μ-loop
 loop-again-2 c =
     let numbers = c .before .before .before .before .args .numbers .now in
-    let i = c .before .before .before .loop .i in
-    let inv = c .before .before .before .loop .inv in
-    let n = c .before .before .before .loop .n in
+    let turn = c .before .before .before .loop in
+    let i = turn .i in
+    let inv = turn .inv in
+    let n = turn .n in
     let loop-test = c .before .before .loop-test in
     (omega arith, omega arith, used-none numbers i n (loop-test .taken) (inv .2) (c .if1 .left))
 

@@ -31,9 +31,10 @@ returns c =
     let start = c .before .before .before .before .before in
     let s = start .args .s in
     let sizes = start .args .sizes .now in
-    let i = c .before .before .before .before .loop .i in
-    let inv = c .before .before .before .before .loop .inv in
-    let total = c .before .before .before .before .loop .total in
+    let turn = c .before .before .before .before .loop in
+    let i = turn .i in
+    let inv = turn .inv in
+    let total = turn .total in
     let loop-test = c .before .before .before .loop-test in
     let wide = c .before .before .wide in
     walk-broken s sizes i total (wide .result) (wide .ensures) (loop-test .taken) (inv .1) (inv .3) (c .if1 .taken)
@@ -41,9 +42,10 @@ returns c =
 loop-again : tie.Need-loop-again Inv-loop μ-loop
 loop-again c =
     let sizes = c .before .before .before .before .before .args .sizes .now in
-    let i = c .before .before .before .before .loop .i in
-    let inv = c .before .before .before .before .loop .inv in
-    let total = c .before .before .before .before .loop .total in
+    let turn = c .before .before .before .before .loop in
+    let i = turn .i in
+    let inv = turn .inv in
+    let total = turn .total in
     let wide = c .before .before .wide in
     let w = walk-next sizes i total (wide .result) (wide .ensures) (inv .1) (inv .3) (c .if1 .left) in
     (omega arith, w .0, omega arith, w .1)

@@ -32,9 +32,10 @@ returns c =
     let numbers = start .args .numbers .now in
     let s = start .args .s in
     let tally = c .before .before .before .before .tally in
-    let i = c .before .before .loop .i in
-    let inv = c .before .before .loop .inv in
-    let n = c .before .before .loop .n in
+    let turn = c .before .before .loop in
+    let i = turn .i in
+    let inv = turn .inv in
+    let n = turn .n in
     top-stop numbers (tally .result) (tally .ensures) s i n (c .before .loop-test .taken) (omega arith) (inv .1) (c .if1 .taken)
 
 loop-again : tie.Need-loop-again Inv-loop μ-loop
@@ -43,9 +44,10 @@ loop-again c =
     let numbers = start .args .numbers .now in
     let s = start .args .s in
     let tally = c .before .before .before .before .tally in
-    let i = c .before .before .loop .i in
-    let inv = c .before .before .loop .inv in
-    let n = c .before .before .loop .n in
+    let turn = c .before .before .loop in
+    let i = turn .i in
+    let inv = turn .inv in
+    let n = turn .n in
     (omega arith, top-next numbers (tally .result) (tally .ensures) s i n (c .before .loop-test .taken) (omega arith) (inv .1) (c .if1 .left))
 
 returns-2 : tie.Need-returns-2 Inv-loop μ-loop

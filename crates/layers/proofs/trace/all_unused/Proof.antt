@@ -24,8 +24,9 @@ returns c =
     let numbers = start .args .numbers .now in
     let pages = start .args .pages .now in
     let pre = start .pre in
-    let i = c .before .before .before .loop .i in
-    let inv = c .before .before .before .loop .inv in
+    let turn = c .before .before .before .loop in
+    let i = turn .i in
+    let inv = turn .inv in
     let loop-test = c .before .before .loop-test in
     unused-number numbers pages i pre (inv .1) (loop-test .taken) (c .if1 .taken)
 
@@ -35,8 +36,9 @@ returns-2 c =
     let numbers = start .args .numbers .now in
     let pages = start .args .pages .now in
     let pre = start .pre in
-    let i = c .before .before .before .before .before .loop .i in
-    let inv = c .before .before .before .before .before .loop .inv in
+    let turn = c .before .before .before .before .before .loop in
+    let i = turn .i in
+    let inv = turn .inv in
     let loop-test = c .before .before .before .before .loop-test in
     let if1 = c .before .before .if1 in
     unused-page numbers pages i pre (inv .1) (loop-test .taken) (if1 .left) (c .if2 .taken)
@@ -47,8 +49,9 @@ loop-again c =
     let numbers = start .args .numbers .now in
     let pages = start .args .pages .now in
     let pre = start .pre in
-    let i = c .before .before .before .before .before .loop .i in
-    let inv = c .before .before .before .before .before .loop .inv in
+    let turn = c .before .before .before .before .before .loop in
+    let i = turn .i in
+    let inv = turn .inv in
     let loop-test = c .before .before .before .before .loop-test in
     let if1 = c .before .before .if1 in
     (omega arith, unused-next numbers pages i pre (inv .1) (loop-test .taken) (if1 .left) (c .if2 .left))

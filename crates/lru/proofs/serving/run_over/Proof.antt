@@ -25,9 +25,10 @@ loop-holds c =
 step-requires : tie.Need-step-requires Inv-loop μ-loop
 step-requires c κs =
     let trace = c .before .before .before .before .before .before .before .args .trace .now in
-    let evicted = c .before .before .before .before .loop .evicted in
-    let i = c .before .before .before .before .loop .i in
-    let inv = c .before .before .before .before .loop .inv in
+    let turn = c .before .before .before .before .loop in
+    let evicted = turn .evicted in
+    let i = turn .i in
+    let inv = turn .inv in
     stands-ready (inv .1 .1 .1) evicted (omega arith) (omega arith) (omega (arith, length-take-le i trace (omega arith)))
 
 loop-again : tie.Need-loop-again Inv-loop μ-loop
@@ -36,8 +37,9 @@ loop-again c =
     let a = start .args .a in
     let k = start .args .k in
     let trace = start .args .trace .now in
-    let i = c .before .before .before .before .before .before .before .before .loop .i in
-    let inv = c .before .before .before .before .before .before .before .before .loop .inv in
+    let turn = c .before .before .before .before .before .before .before .before .loop in
+    let i = turn .i in
+    let inv = turn .inv in
     let step = c .before .before .before .step in (
       omega arith,
       (

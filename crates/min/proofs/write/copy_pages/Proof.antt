@@ -25,9 +25,10 @@ loop-again c =
     let start = c .before .before .before .before .before .before in
     let held = start .args .held .now in
     let pages₀ = start .args .pages .now in
-    let i = c .before .before .before .loop .i in
-    let inv = c .before .before .before .loop .inv in
-    let pages = c .before .before .before .loop .pages in
+    let turn = c .before .before .before .loop in
+    let i = turn .i in
+    let inv = turn .inv in
+    let pages = turn .pages in
     (omega arith, (simp length-set (omega arith), pages-turn i held pages₀ pages (c .page-of .result) (omega arith) (omega arith) (inv .1 .1) (c .page-of .ensures)))
 
 returns : tie.Need-returns Inv-loop μ-loop
