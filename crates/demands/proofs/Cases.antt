@@ -76,7 +76,7 @@ cases =
     ∷ eqb (min.countsOf 3 2 shift .loads) 7
     ∷ eqb (lru.totalsOf 3 2 shift .bundles) 3
     ∷ eqb (lru.totalsOf 3 2 shift .loads) 8
-    ∷ eqb (traceTotals 3 2 shift (zeros 8) (zeros 8) .evictions) 2
+    ∷ eqb (traceTotals 3 2 shift (zeros 8) (zeros 8) .bundles) 2
     ∷ eqb (traceTotals 3 2 shift (zeros 8) (zeros 8) .s) 3
     ∷ eqb (traceTotals 3 2 shift (zeros 8) (zeros 8) .revealed) 2
     -- 2. MIN's bundles
@@ -101,7 +101,7 @@ cases =
     ∷ isRefused (asked (6 ∷ 6 ∷ []))
     ∷ eqb (said (asked (6 ∷ 6 ∷ []))) 11
     -- 7. k 2, a 2, pages 1 2 3: one bundle, s 1
-    ∷ eqb (traceTotals 2 2 (1 ∷ 2 ∷ 3 ∷ []) (zeros 3) (zeros 3) .evictions) 1
+    ∷ eqb (traceTotals 2 2 (1 ∷ 2 ∷ 3 ∷ []) (zeros 3) (zeros 3) .bundles) 1
     ∷ eqb (traceTotals 2 2 (1 ∷ 2 ∷ 3 ∷ []) (zeros 3) (zeros 3) .s) 1
     -- 8. k 1, a 1, pages 1 2 1: two bundles
     ∷ eqb (min.countsOf 1 1 (1 ∷ 2 ∷ 1 ∷ []) .bundles) 2
