@@ -1,9 +1,7 @@
 -- `trace_at` meets its contract: the walk of `At` at the trace reader's struct and functions.
 use mathlib.Core.Path.{_≡_}
-use Prim.Native.Nat.{ℕ}
-use mathlib.Core.List.{List}
 use contract.Running.{givenOf, tables, tablesOf}
-use denote.Ref.{RefT, now}
+use denote.Ref.{now}
 use denote.Triple.Spec.{tripleOf}
 use denote.Triple.Table.{entered, cited}
 use Rattle.reading.specs.Answers.{traceAnswer}
