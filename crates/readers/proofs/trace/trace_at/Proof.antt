@@ -1,4 +1,5 @@
 -- `trace_at` meets its contract: the walk of `At` at the trace reader's struct and functions.
+-- The promises (`_`) are read from the contracts of this function and of those called. The equation is given point by point (`i`): so it is checked last.
 use mathlib.Core.Path.{_≡_}
 use contract.Running.{givenOf, tables, tablesOf}
 use denote.Ref.{now}
