@@ -7,11 +7,11 @@ use prog.Wp.{Heap}
 use ghost.Atoms.{Atoms, sem}
 use contract.Lifetimes.{Lfts}
 use contract.Monad.{fact}
-use types.Kit.{Given, Item, Seq, Goal, Soaks, ‵, raw, _⊛_, some, later, _$_, move, use1, split, pick, await}
+use types.Kit.{Given, Item, Seq, Goal, Soaks, ‵, raw, _⊛_, some, later, _$_, _∵_, !, qed, move, use1, split, pick, frame, await, done}
 use denote.Signature.{typeAt}
 use denote.Steps.{heard}
 use denote.Triple.Clauses.{Ended, Clauses, closing, ensured, lasts}
-use denote.Triple.Entry.{Args, Res, alive}
+use denote.Triple.Entry.{Args, Res, alive, onEntry}
 use denote.Triple.Spec.{tripleOf}
 use denote.Triple.Statement.{Contract}
 
@@ -24,6 +24,11 @@ promising 𝓤 T P κs a = record { ghost = Unit {0}; requires = λ g. emp 𝓤;
 
 abbrev pub promised : {M : Type 1} (𝓤 : URA M) (H : Heap 𝓤) (A : Atoms 𝓤) (T : Ended) → Promise T → Contract 𝓤
 promised 𝓤 H A T P = tripleOf 𝓤 H A (T .signature) (closing 𝓤 H A T (promising 𝓤 T P))
+
+-- what a call asks for is what the signature says of what is passed
+pub asked : {M : Type 1} (𝓤 : URA M) (H : Heap 𝓤) (A : Atoms 𝓤) → Given 𝓤 H A → (T : Ended) (P : Promise T) (y : promised 𝓤 H A T P .Ghost)
+    → ent 𝓤 (onEntry 𝓤 H A (T .signature) (y .0 .0) (y .0 .1) (y .0 .3) (y .0 .4)) (promised 𝓤 H A T P .pre y)
+asked 𝓤 H A W T P y = qed W (raw (onEntry 𝓤 H A (T .signature) (y .0 .0) (y .0 .1) (y .0 .3) (y .0 .4)) ∷ []) ∵ frame ! $ done !
 
 module _ {M : Type 1} {𝓤 : URA M} {H : Heap 𝓤} {A : Atoms 𝓤} {K : Type 0} {W : Given 𝓤 H A} {Γ : List (Item 𝓤)} {G : Goal 𝓤 H} where
   -- a call has returned u: it is the machine's form of some result of which the promise holds. In front: what the result owns, and the lifetimes' tokens

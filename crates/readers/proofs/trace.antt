@@ -1,2 +1,2 @@
--- The trace reader, as the walks have it.
+-- The trace reader: `Held` says that its struct and its answers are of the kind that the walks are proved of.
 mod Held

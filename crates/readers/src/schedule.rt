@@ -26,7 +26,7 @@ impl<'a> ScheduleReader<'a> {
         reading::schedule(self.file, self.at)
     }
 
-    // The bytes of n pages from an offset on, as a part of the file, which outlives the reader; where the file ends before, those that are there.
+    // The bytes of n pages from an offset on, as a part of the file, for as long as the file is lent; where the file ends before, those that are there.
     pub fn pages(self, from: usize, n: usize) -> &'a [u8]
         ensures { λ r. ⌜ now r ≡ take (4 * n) (drop from (now (self .entry .file))) ⌝ }
     {

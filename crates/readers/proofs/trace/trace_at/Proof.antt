@@ -1,9 +1,8 @@
 -- `trace_at` meets its contract: the walk of `At` at the trace reader's struct and functions.
+-- The promises (`_`) are read from the contracts of this function and of those called. The equation is given point by point (`i`): so it is checked last.
 use mathlib.Core.Path.{_≡_}
-use Prim.Native.Nat.{ℕ}
-use mathlib.Core.List.{List}
 use contract.Running.{givenOf, tables, tablesOf}
-use denote.Ref.{RefT, now}
+use denote.Ref.{now}
 use denote.Triple.Spec.{tripleOf}
 use denote.Triple.Table.{entered, cited}
 use Rattle.reading.specs.Answers.{traceAnswer}

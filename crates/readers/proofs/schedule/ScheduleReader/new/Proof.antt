@@ -1,4 +1,5 @@
 -- `ScheduleReader::new` meets its contract: the walk of `new` at the schedule reader's struct.
+-- The offset that the code has and the promise (`_`) are read from the code and the contract.
 use contract.Running.{givenOf, tables, tablesOf}
 use denote.Triple.Spec.{tripleOf}
 use denote.Triple.Table.{entered}

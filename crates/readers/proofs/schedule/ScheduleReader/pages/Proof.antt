@@ -1,4 +1,5 @@
 -- `ScheduleReader::pages` meets its contract: the walk of `pages` at the schedule reader's struct, where the function called is `reading::pages`.
+-- The promises (`_`) are read from the contracts of this function and of those called. The equation is given point by point (`i`): so it is checked last.
 use contract.Running.{givenOf, tables, tablesOf}
 use denote.Triple.Spec.{tripleOf}
 use denote.Triple.Table.{entered, cited}

@@ -1,4 +1,5 @@
 -- `TraceReader::moved` meets its contract: the walk of `moved` at the trace reader's struct.
+-- The promise (`_`) is read from the contract.
 use contract.Running.{givenOf, tables, tablesOf}
 use denote.Triple.Spec.{tripleOf}
 use denote.Triple.Table.{entered}

@@ -1,4 +1,5 @@
 -- `TraceReader::new` meets its contract: the walk of `new` at the trace reader's struct.
+-- The offset that the code has and the promise (`_`) are read from the code and the contract.
 use contract.Running.{givenOf, tables, tablesOf}
 use denote.Triple.Spec.{tripleOf}
 use denote.Triple.Table.{entered}
