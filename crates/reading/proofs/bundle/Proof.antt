@@ -1,4 +1,4 @@
--- `records::read::bundle` meets its contract: the tests are those of `evRead`, in its order.
+-- `reading::bundle` meets its contract: the tests are those of `evRead`, in its order.
 use mathlib.Core.Path.{_∙_, _≡_}
 use borrow.Author.Needs.{needs}
 use Rattle.records.specs.Bytes.{evLength}

@@ -1,4 +1,4 @@
--- `records::read::entry` meets its contract: by the mark's kind, each arm is one clause of `entryRead`.
+-- `reading::entry` meets its contract: by the mark's kind, each arm is one clause of `entryRead`.
 use mathlib.Core.Path.{_≡_, _∙_, sym, ap}
 use lib.ListN.{drop}
 use borrow.Author.Needs.{needs}

@@ -1,4 +1,4 @@
--- `records::read::fetch` meets its contract: the record is cut, or its t and page are read.
+-- `reading::fetch` meets its contract: the record is cut, or its t and page are read.
 use borrow.Author.Needs.{needs}
 use Rattle.reading.proofs.Reading.{pf-cut, pf-taken}
 use Rattle.reading.proofs.fetch.Statement.{statement}

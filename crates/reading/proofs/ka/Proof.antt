@@ -1,4 +1,4 @@
--- `records::read::ka` meets its contract: by the mark's kind, each arm is one clause of `kaRead`.
+-- `reading::ka` meets its contract: by the mark's kind, each arm is one clause of `kaRead`.
 use mathlib.Core.Path.{_≡_, _∙_, sym, ap}
 use borrow.Author.Needs.{needs}
 use Rattle.records.specs.Answers.{kindMark}

@@ -1,4 +1,4 @@
--- `records::read::mark_at` meets its contract: fewer than two bytes are 5, else the mark decides.
+-- `reading::mark_at` meets its contract: fewer than two bytes are 5, else the mark decides.
 use mathlib.Core.Path.{_∙_, ap}
 use borrow.Author.Needs.{needs}
 use Rattle.records.specs.Marks.{markOf}

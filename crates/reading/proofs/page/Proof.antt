@@ -1,4 +1,4 @@
--- `records::read::page` meets its contract: the record is cut, or its page is read.
+-- `reading::page` meets its contract: the record is cut, or its page is read.
 use borrow.Author.Needs.{needs}
 use Rattle.reading.proofs.Reading.{rq-cut, rq-taken}
 use Rattle.reading.proofs.page.Statement.{statement}

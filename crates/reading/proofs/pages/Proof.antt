@@ -1,4 +1,4 @@
--- `records::read::pages` meets its contract: nothing is there, less than asked, or all of it.
+-- `reading::pages` meets its contract: nothing is there, less than asked, or all of it.
 use borrow.Author.Needs.{needs}
 use Rattle.reading.proofs.Reading.{pages-none, pages-rest, pages-whole}
 use Rattle.reading.proofs.pages.Statement.{statement}

@@ -1,4 +1,4 @@
--- `records::read::request` meets its contract: by the mark's kind, each arm is one clause of `rqRead`.
+-- `reading::request` meets its contract: by the mark's kind, each arm is one clause of `rqRead`.
 use mathlib.Core.Path.{_≡_, _∙_, sym, ap}
 use lib.ListN.{drop}
 use borrow.Author.Needs.{needs}

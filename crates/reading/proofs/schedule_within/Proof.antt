@@ -1,4 +1,4 @@
--- `records::read::schedule_within` meets its contract: the offset is past the end, at the start, at the end, or before an entry.
+-- `reading::schedule_within` meets its contract: the offset is past the end, at the start, at the end, or before an entry.
 use mathlib.Core.Path.{_∙_, sym, ap}
 use borrow.Author.Needs.{needs}
 use Rattle.reading.specs.Answers.{startAnswer}

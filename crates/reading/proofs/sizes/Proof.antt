@@ -1,4 +1,4 @@
--- `records::read::sizes` meets its contract: the file is too short, the sizes are refused, or they are the KA's.
+-- `reading::sizes` meets its contract: the file is too short, the sizes are refused, or they are the KA's.
 use borrow.Author.Needs.{needs}
 use Rattle.reading.proofs.Reading.{ka-cut, ka-judged, ka-taken}
 use Rattle.reading.proofs.sizes.Statement.{statement}
