@@ -8,7 +8,7 @@ use Rattle.paging.specs.Min.{bestCount}
 use Rattle.paging.proofs.Refusals.{trace-right}
 use Rattle.theory.proofs.Best.{min-serves, min-costs-best, serving-costs-best, layers-count-best}
 use Rattle.theory.proofs.Lru.{lru-within-factor}
-use Rattle.theory.proofs.Possible.{possible-is-what-min-can-hold}
+use Rattle.theory.proofs.Possible.{possible-is-what-min-can-hold, min-holds-possible-sets}
 use Rattle.records.specs.Bytes.{traceBytes, scheduleBytes}
 use Rattle.lru.specs.Standing.{acceptedPages, emptyState}
 use Rattle.lru.specs.declared.Run.{Run}
@@ -16,9 +16,10 @@ use Rattle.lru.proofs.Steps as lru
 use Rattle.layers.specs.declared.LayersRun.{LayersRun}
 use Rattle.layers.proofs.Steps.{yes-exactly}
 use Rattle.min.specs.Calls.{bytesRefusal, scheduleRefusal, minSchedule}
-use Rattle.judging.specs.Answer.{cost}
+use Rattle.judging.specs.Answer.{cost, answerNumber}
 use Rattle.judging.specs.Files.{judged}
 use Rattle.judging.proofs.ExactFiles.{sound, complete}
+use Rattle.judging.proofs.Numbers.{refusals-are-numbered, number-is-cost}
 use Rattle.demands.specs.Demand3.{Compares, Demand3, minEntries, scheduleWritten}
 use Rattle.demands.specs.LayersCalls.{layersStart, layersAfterCalls, layersTrace}
 use Rattle.demands.proofs.LayersLists.{list-stands}
@@ -65,10 +66,20 @@ compares k a pos le small =
           let yes = yes-exactly k a trace (x .run) (x .pages) (x .numbers) (list-stands k a pos le small places calls) set once answer told in
           let exact = possible-is-what-min-can-hold k a pos le trace set once in
           (λ y. exact .0 (yes .0 y), λ h. yes .1 (exact .1 h));
+      no-other-set-is-held = λ places calls set once answer told later h.
+          let x = layersAfterCalls calls (layersStart k a places) in
+          let trace = layersTrace calls (layersStart k a places) in
+          let yes = yes-exactly k a trace (x .run) (x .pages) (x .numbers) (list-stands k a pos le small places calls) set once answer told in
+          yes .1 (min-holds-possible-sets k a pos le trace set once later h);
+      min-counts-the-best-count = λ trace e. rw e refl;
       min-reports-the-best-count = λ trace out e. rw e refl;
       min-writes-its-schedule = λ trace out e. written-is k a trace out e;
-      judge-answers-the-best-count = judge-answers k a pos le small;
+      judge-answers-the-best-count = λ trace out e. ap answerNumber (judge-answers k a pos le small trace out e);
     }
 
 pub demand-3-holds : Demand3
-demand-3-holds = record { compares = compares; judge-answers-a-legal-cost = λ trace schedule bt bs bundles e. sound trace schedule bundles bt bs e }
+demand-3-holds = record {
+  compares = compares;
+  judge-answers-a-legal-cost = λ trace schedule bt bs bundles e. sound trace schedule bundles bt bs (number-is-cost trace schedule bundles e);
+  judge-refuses-by-number = refusals-are-numbered;
+}

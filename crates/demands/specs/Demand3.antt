@@ -4,22 +4,23 @@ use mathlib.Core.Bool.{true}
 use mathlib.Core.List.{List, []}
 use mathlib.Core.Logic.{_↔_}
 use mathlib.Core.Path.{_≡_}
+use lib.IntN.{pos}
 use lib.ListN.{length, take}
 use Rattle.lists.specs.Pages.{distinct}
 use Rattle.paging.specs.Min.{minRule, bestCount}
-use Rattle.paging.specs.Policy.{bundles}
-use Rattle.paging.specs.Refusals.{largestK}
+use Rattle.paging.specs.Policy.{holds, bundles}
+use Rattle.paging.specs.Refusals.{largestK, traceRefusal}
 use Rattle.paging.specs.Schedule.{Entry, serves, entriesCost}
 use Rattle.theory.specs.Factor.{ceilDiv}
-use Rattle.theory.specs.Possible.{CanHold}
+use Rattle.theory.specs.Possible.{CanHold, HoldsJust}
 use Rattle.wire.specs.Numbers.{Bytes}
 use Rattle.records.specs.Bytes.{traceBytes, scheduleBytes}
 use Rattle.lru.specs.Standing.{Call, afterCalls, acceptedPages, emptyState}
 use Rattle.layers.specs.Questions.{PossibleTold}
 use Rattle.layers.specs.declared.PossibleAnswer.{PossibleAnswer}
 use Rattle.layers.specs.declared.PossibleAnswer.the-variants.{Yes}
-use Rattle.min.specs.Calls.{scheduleRefusal, scheduledOf, bytesOf}
-use Rattle.judging.specs.Answer.{cost}
+use Rattle.min.specs.Calls.{countsOf, scheduleRefusal, scheduledOf, bytesOf}
+use Rattle.judging.specs.Answer.{refused, answerNumber}
 use Rattle.judging.specs.Files.{judged}
 use Rattle.judging.specs.LegalFiles.{LegalFiles}
 use Rattle.demands.specs.LayersCalls.{LayersCall, layersStart, layersAfterCalls, layersTrace}
@@ -49,17 +50,26 @@ pub record Compares (k a : ℕ) : Type 0 where
       → (answer : PossibleAnswer)
       → (let x = layersAfterCalls calls (layersStart k a places) in PossibleTold (x .run) (x .pages) (x .numbers) set answer)
       → (answer ≡ Yes) ↔ CanHold (minRule a) k (layersTrace calls (layersStart k a places)) set
+  -- and whatever pages follow, MIN holds no set that is answered otherwise
+  pub no-other-set-is-held : (places : ℕ) (calls : List LayersCall) (set : List ℕ) → distinct set ≡ true
+      → (answer : PossibleAnswer)
+      → (let x = layersAfterCalls calls (layersStart k a places) in PossibleTold (x .run) (x .pages) (x .numbers) set answer)
+      → (later : List ℕ) → HoldsJust (holds (minRule a) k (layersTrace calls (layersStart k a places)) later []) set → answer ≡ Yes
   -- "for each trace that MIN accepts, the bundles it reports and the EVs it writes are each as many as its best count, and that number is
   -- the judge's answer to a file of the trace and just the schedule's bytes"
+  pub min-counts-the-best-count : (trace : List ℕ) → traceRefusal k a trace 0 ≡ 0 → countsOf k a trace .bundles ≡ bestCount k a trace
   pub min-reports-the-best-count : (trace out : List ℕ) → scheduleRefusal k a trace out ≡ 0 → scheduledOf k a trace out .bundles ≡ bestCount k a trace
   pub min-writes-its-schedule : (trace out : List ℕ) → scheduleRefusal k a trace out ≡ 0
       → scheduleWritten k a trace out ≡ scheduleBytes k a (minEntries k a trace)
   pub judge-answers-the-best-count : (trace out : List ℕ) → scheduleRefusal k a trace out ≡ 0
-      → judged (traceBytes k a trace) (scheduleWritten k a trace out) ≡ cost (bestCount k a trace)
+      → answerNumber (judged (traceBytes k a trace) (scheduleWritten k a trace out)) ≡ pos (bestCount k a trace)
 
 -- the whole demand: the comparisons for every k from 1 to 256 and a from 1 to k, and the judge on any two files
 pub record Demand3 : Type 0 where
   pub compares : (k a : ℕ) → 1 ≤ a → a ≤ k → k ≤ largestK → Compares k a
-  -- "two files for which the judge answers a cost are a trace and a legal schedule of it with that cost"
+  -- "two files for which the judge answers a cost are a trace and a legal schedule of it with that cost": the caller receives a number, and one at or above
+  -- zero is a cost
   pub judge-answers-a-legal-cost : (trace schedule : List ℕ) → Bytes trace → Bytes schedule → (bundles : ℕ)
-      → judged trace schedule ≡ cost bundles → LegalFiles trace schedule bundles
+      → answerNumber (judged trace schedule) ≡ pos bundles → LegalFiles trace schedule bundles
+  -- and one below zero is a refusal's, from 1 to 7, made negative
+  pub judge-refuses-by-number : (trace schedule : List ℕ) (number : ℕ) → judged trace schedule ≡ refused number → (1 ≤ number) × (number ≤ 7)

@@ -1,2 +1,3 @@
 pub mod LayersCalls
 pub mod Demand3
+pub mod Cases

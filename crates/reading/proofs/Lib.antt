@@ -3,3 +3,4 @@ pub mod Facts
 pub mod Walk
 pub mod RoundTrip
 pub mod Exact
+pub mod Numbers

@@ -66,12 +66,12 @@ module _ (k : ℕ) (L : Layers) (set held : List ℕ) (A : Agree k L set held) (
       not-false _ (count-zero (λ r. not (mem r set)) q held none m)
 
 module _ (k a : ℕ) (pos : 1 ≤ a) (le : a ≤ k) (rule : Rule) (F : Farthest a rule) (trace set : List ℕ) (d : distinct set ≡ true) where
-  -- what the rule can hold is possible
-  pub possible-of-held : CanHold rule k trace set → possible (layersAfter k a trace noLayers) set ≡ true
-  possible-of-held h =
-      let A = layers-agree-with-min k a pos le rule F trace (h .0) in
-      let held = holds rule k trace (h .0) [] in
-      let same : Same held set = same-of-members held set (A .once) (distinct-once set d) (h .1) in
+  -- what the rule holds, whatever pages follow, is possible
+  pub possible-of-held : (later : List ℕ) → HoldsJust (holds rule k trace later []) set → possible (layersAfter k a trace noLayers) set ≡ true
+  possible-of-held later h =
+      let A = layers-agree-with-min k a pos le rule F trace later in
+      let held = holds rule k trace later [] in
+      let same : Same held set = same-of-members held set (A .once) (distinct-once set d) h in
       and-i _ _ (eq-eqb _ _ (sym (length-same held set same) ∙ A .size))
       (holdsUpTo-of (layersAfter k a trace noLayers) set (layersAfter k a trace noLayers .top)
       (λ i l. omega (arith, same (λ q. leb (layersAfter k a trace noLayers .of q) i), A .below i)))
@@ -87,9 +87,13 @@ module _ (k a : ℕ) (pos : 1 ≤ a) (le : a ≤ k) (rule : Rule) (F : Farthest 
       (set-held k L set (holds rule k trace set []) A (distinct-once set d) sized fits q)
 
   pub possible-is-exact : (possible (layersAfter k a trace noLayers) set ≡ true) ↔ CanHold rule k trace set
-  possible-is-exact = (λ h. (set, held-of-possible h), possible-of-held)
+  possible-is-exact = (λ h. (set, λ q m. m, held-of-possible h), λ c. possible-of-held (c .0) (c .2))
 
 -- for MIN's order
 pub possible-is-what-min-can-hold : (k a : ℕ) → 1 ≤ a → a ≤ k → (trace set : List ℕ) → distinct set ≡ true
     → (possible (layersAfter k a trace noLayers) set ≡ true) ↔ CanHold (minRule a) k trace set
 possible-is-what-min-can-hold k a pos le trace set d = possible-is-exact k a pos le (minRule a) (minRule-is-farthest a) trace set d
+
+pub min-holds-possible-sets : (k a : ℕ) → 1 ≤ a → a ≤ k → (trace set : List ℕ) → distinct set ≡ true → (later : List ℕ)
+    → HoldsJust (holds (minRule a) k trace later []) set → possible (layersAfter k a trace noLayers) set ≡ true
+min-holds-possible-sets k a pos le trace set d = possible-of-held k a pos le (minRule a) (minRule-is-farthest a) trace set d

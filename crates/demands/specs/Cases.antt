@@ -1,0 +1,154 @@
+-- The ten cases that document 01 marks for proof ("The eight-request shift"), as one table of inputs and results. A row's result is computed by the
+-- definitions that the promises cite.
+use Prim.Native.Nat.{ℕ, zero, suc}
+use mathlib.Core.Bool.{Bool, true, false}
+use mathlib.Core.List.{List, [], _∷_, _++_}
+use lib.Dec.{eqb}
+use lib.ListN.{take, replicate}
+use Rattle.lists.specs.Choice.{_and_}
+use Rattle.paging.specs.Layers.{breaksAt}
+use Rattle.paging.specs.Rows.{rowsOf}
+use Rattle.paging.specs.Schedule.{Entry, ev}
+use Rattle.paging.proofs.Same.{samePages, sameEntries, shift}
+use Rattle.records.specs.Bytes.{traceBytes}
+use Rattle.lru.specs.Calls as lru
+use Rattle.lru.specs.Standing.{Call, State, afterCalls, emptyState}
+use Rattle.layers.specs.Calls.{requestRefusal}
+use Rattle.layers.specs.Questions.{Verdict, refusedWith, possibleSet, countDiffers, broken, verdict, layersIn}
+use Rattle.layers.specs.Traces.{traceTotals}
+use Rattle.min.specs.Calls.{countsOf}
+use Rattle.report.specs.Calls.{counts, layersCounts, reportOf}
+use Rattle.report.specs.declared.Report.{Report}
+use Rattle.demands.specs.Demand3.{minEntries}
+use Rattle.demands.specs.LayersCalls.{LayersCall, request, LayersState, layersStart, layersAfterCalls}
+
+pub data Row : Type 0 where
+  -- the bench's report on a file
+  reports : (file : List ℕ) (report : Report) → Row
+  -- MIN's bundles
+  minEvicts : (k a : ℕ) (pages : List ℕ) (entries : List Entry) → Row
+  -- after some pages, a request to LRU leaves this in an evicted list of a places
+  lruEvicts : (k a : ℕ) (pages : List ℕ) (page : ℕ) (bundle : List ℕ) → Row
+  -- bundles of MIN, LRU and the layers over a trace, and s
+  counted : (k a : ℕ) (pages : List ℕ) (byMin byLru byLayers s : ℕ) → Row
+  -- the table after requests to the layers
+  tabled : (k a places : ℕ) (pages tablePages numbers : List ℕ) → Row
+  -- after some requests, a set's verdict, and for each layer from 0 to s whether the rule breaks at it
+  asked : (k a places : ℕ) (pages set : List ℕ) (said : Verdict) (layers : List Bool) → Row
+  -- after some requests, the refusal of a further one, 0 for none
+  refuses : (k a places : ℕ) (pages : List ℕ) (page number : ℕ) → Row
+
+-- Computed by the calls
+
+-- LRU's calls for some pages, each lent an evicted list of so many places
+abbrev pub lruCalls : (places : ℕ) → List ℕ → List Call
+lruCalls places [] = []
+lruCalls places (p ∷ ps) = record { page = p; evicted = replicate places 0 } ∷ lruCalls places ps
+
+abbrev pub lruAfter : (k a : ℕ) → List ℕ → State
+lruAfter k a pages = afterCalls (lruCalls a pages) (emptyState k a (replicate k 0))
+
+abbrev pub layersCalls : List ℕ → List LayersCall
+layersCalls [] = []
+layersCalls (p ∷ ps) = request p ∷ layersCalls ps
+
+abbrev pub layersAt : (k a places : ℕ) → List ℕ → LayersState
+layersAt k a places pages = layersAfterCalls (layersCalls pages) (layersStart k a places)
+
+-- whether the rule breaks at each layer from 0 to i
+abbrev pub breaks : (i : ℕ) → LayersState → List ℕ → List Bool
+breaks zero x set = breaksAt (layersIn (x .run) (rowsOf (x .numbers) (x .pages))) set 0 ∷ []
+breaks (suc i) x set = breaks i x set ++ (breaksAt (layersIn (x .run) (rowsOf (x .numbers) (x .pages))) set (suc i) ∷ [])
+
+-- Compared
+
+abbrev pub sameReport : Report → Report → Bool
+sameReport x y =
+    eqb (x .refusal) (y .refusal) and eqb (x .k) (y .k) and eqb (x .a) (y .a) and eqb (x .requests) (y .requests)
+    and eqb (x .min .bundles) (y .min .bundles) and eqb (x .min .loads) (y .min .loads)
+    and eqb (x .lru .bundles) (y .lru .bundles) and eqb (x .lru .loads) (y .lru .loads)
+    and eqb (x .layers .bundles) (y .layers .bundles) and eqb (x .layers .s) (y .layers .s) and eqb (x .layers .revealed) (y .layers .revealed)
+
+abbrev pub sameVerdict : Verdict → Verdict → Bool
+sameVerdict possibleSet possibleSet = true
+sameVerdict countDiffers countDiffers = true
+sameVerdict broken broken = true
+sameVerdict (refusedWith m) (refusedWith n) = eqb m n
+sameVerdict possibleSet countDiffers = false
+sameVerdict possibleSet broken = false
+sameVerdict possibleSet (refusedWith n) = false
+sameVerdict countDiffers possibleSet = false
+sameVerdict countDiffers broken = false
+sameVerdict countDiffers (refusedWith n) = false
+sameVerdict broken possibleSet = false
+sameVerdict broken countDiffers = false
+sameVerdict broken (refusedWith n) = false
+sameVerdict (refusedWith m) possibleSet = false
+sameVerdict (refusedWith m) countDiffers = false
+sameVerdict (refusedWith m) broken = false
+
+abbrev pub sameTest : Bool → Bool → Bool
+sameTest true y = y
+sameTest false true = false
+sameTest false false = true
+
+abbrev pub sameTests : List Bool → List Bool → Bool
+sameTests [] [] = true
+sameTests [] (y ∷ ys) = false
+sameTests (x ∷ xs) [] = false
+sameTests (x ∷ xs) (y ∷ ys) = sameTest x y and sameTests xs ys
+
+abbrev pub right : Row → Bool
+right (reports file report) = sameReport (reportOf file) report
+right (minEvicts k a pages entries) = sameEntries (minEntries k a pages) entries
+right (lruEvicts k a pages page bundle) =
+    let S = lruAfter k a pages in samePages (lru.evictedOf (S .run) (S .count) (S .cache) (replicate a 0) page) bundle
+right (counted k a pages byMin byLru byLayers s) =
+    let T = traceTotals k a pages (replicate 8 0) (replicate 8 0) in
+    eqb (countsOf k a pages .bundles) byMin and eqb (lru.totalsOf k a pages .bundles) byLru and eqb (T .bundles) byLayers and eqb (T .s) s
+right (tabled k a places pages tablePages numbers) =
+    let x = layersAt k a places pages in samePages (x .pages) tablePages and samePages (x .numbers) numbers
+right (asked k a places pages set said layers) =
+    let x = layersAt k a places pages in sameVerdict (verdict (x .run) (x .pages) (x .numbers) set) said and sameTests (breaks (x .run .s) x set) layers
+right (refuses k a places pages page number) =
+    let x = layersAt k a places pages in eqb (requestRefusal (x .run) (x .pages) (x .numbers) page) number
+
+-- The table
+
+abbrev pub markedCases : List Row
+markedCases =
+    -- 1. the four lines' numbers, of the shift's 54 bytes
+    reports (traceBytes 3 2 shift) (record { refusal = 0; k = 3; a = 2; requests = 8; min = counts 2 7; lru = counts 3 8; layers = layersCounts 2 3 2 })
+    -- 2. MIN's bundles
+    ∷ minEvicts 3 2 shift (ev 3 (3 ∷ 1 ∷ []) ∷ ev 6 (2 ∷ 4 ∷ []) ∷ [])
+    -- 3. LRU's
+    ∷ lruEvicts 3 2 (take 3 shift) 4 (1 ∷ 2 ∷ [])
+    ∷ lruEvicts 3 2 (take 5 shift) 5 (3 ∷ 4 ∷ [])
+    ∷ lruEvicts 3 2 (take 7 shift) 1 (2 ∷ 5 ∷ [])
+    -- 4. layers at the end
+    ∷ tabled 3 2 5 shift (2 ∷ 4 ∷ 5 ∷ 6 ∷ 1 ∷ []) (1 ∷ 1 ∷ 1 ∷ 2 ∷ 3 ∷ [])
+    -- 5. after seven requests {5,6} is possible
+    ∷ asked 3 2 8 (take 7 shift) (5 ∷ 6 ∷ []) possibleSet (false ∷ false ∷ false ∷ [])
+    -- 6. there {2,4} breaks at layer 1 and {1,6} at layer 0, each at no other; {6} differs in count; {6,6} is 11
+    ∷ asked 3 2 8 (take 7 shift) (2 ∷ 4 ∷ []) broken (false ∷ true ∷ false ∷ [])
+    ∷ asked 3 2 8 (take 7 shift) (1 ∷ 6 ∷ []) broken (true ∷ false ∷ false ∷ [])
+    ∷ asked 3 2 8 (take 7 shift) (6 ∷ []) countDiffers (false ∷ false ∷ false ∷ [])
+    ∷ asked 3 2 8 (take 7 shift) (6 ∷ 6 ∷ []) (refusedWith 11) (false ∷ false ∷ false ∷ [])
+    -- 7. k 2, a 2, pages 1 2 3: one bundle, s 1
+    ∷ counted 2 2 (1 ∷ 2 ∷ 3 ∷ []) 1 1 1 1
+    -- 8. k 1, a 1, pages 1 2 1: two bundles
+    ∷ counted 1 1 (1 ∷ 2 ∷ 1 ∷ []) 2 2 2 1
+    -- 9. k 2, a 1, table of 2: page 3 after 1 2 is 10; with a 2 it is accepted
+    ∷ refuses 2 1 2 (1 ∷ 2 ∷ []) 3 10
+    ∷ refuses 2 2 2 (1 ∷ 2 ∷ []) 3 0
+    -- 10. k 2, a 1, table of 3: 1 2 3 1 4 is accepted throughout
+    ∷ refuses 2 1 3 [] 1 0
+    ∷ refuses 2 1 3 (1 ∷ []) 2 0
+    ∷ refuses 2 1 3 (1 ∷ 2 ∷ []) 3 0
+    ∷ refuses 2 1 3 (1 ∷ 2 ∷ 3 ∷ []) 1 0
+    ∷ refuses 2 1 3 (1 ∷ 2 ∷ 3 ∷ 1 ∷ []) 4 0
+    ∷ []
+
+abbrev pub allRight : List Row → Bool
+allRight [] = true
+allRight (row ∷ rows) = right row and allRight rows
