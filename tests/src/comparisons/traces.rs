@@ -23,23 +23,30 @@ fn on_table(k: u32, a: u32, trace: &[u32]) -> layers::OverTrace {
     layers::OverTrace { k, a, trace: trace.to_vec(), pages: unused.clone(), numbers: unused }
 }
 
-/// The most places that a trace's layers take, and tables that have as many, one less or one more; tables
-/// of unequal lists; tables that are not all unused.
+/// Tables with as many places as the layers take at the end, one less, one more and others; with unequal
+/// lists; with a place that is used; and with two of these at once.
 fn other_tables(reached: &mut Reached, k: u32, a: u32, trace: &[u32], rng: &mut Rng) {
     let full = on_table(k, a, trace);
     let (left, _) = reached.compare(&full);
     let most = left.numbers.list().iter().filter(|&&number| number > 0).count();
-    for places in [0, most.saturating_sub(1), most, most + 1, rng.below(trace.len() + 1)] {
-        let unused = Lent::new(&vec![0; places]);
-        reached.compare(&layers::OverTrace { pages: unused.clone(), numbers: unused, ..full.clone() });
+    for places in [0, most.saturating_sub(1), most, most + 1, rng.below(trace.len() + 1), trace.len() + 1] {
+        let equal = Lent::new(&vec![0; places]);
+        let longer = Lent::new(&vec![0; places + 1]);
+        let mut used = longer.clone();
+        used.list_mut()[rng.below(places + 1)] = 1 + rng.below(3) as u32;
+        for (pages, numbers) in [
+            (&equal, &equal),
+            (&equal, &longer),
+            (&longer, &equal),
+            (&longer, &used),
+            (&used, &longer),
+            (&used, &equal),
+            (&equal, &used),
+        ] {
+            let (pages, numbers) = (pages.clone(), numbers.clone());
+            reached.compare(&layers::OverTrace { pages, numbers, ..full.clone() });
+        }
     }
-    let (longer, used) = (Lent::new(&vec![0; trace.len() + 1]), rng.below(trace.len() + 1));
-    reached.compare(&layers::OverTrace { pages: longer.clone(), ..full.clone() });
-    reached.compare(&layers::OverTrace { numbers: longer.clone(), ..full.clone() });
-    let mut not_zero = longer.clone();
-    not_zero.list_mut()[used] = 1 + rng.below(3) as u32;
-    reached.compare(&layers::OverTrace { pages: longer.clone(), numbers: not_zero.clone(), ..full.clone() });
-    reached.compare(&layers::OverTrace { pages: not_zero, numbers: longer, ..full });
 }
 
 /// One trace through MIN and LRU, and through the layers on a table with places enough.
@@ -90,7 +97,7 @@ fn long(reached: &mut Reached, rng: &mut Rng) {
         }
     }
     let trace = vec![4; TRACE_MAX + 1];
-    for (k, a) in [(3, 2), (0, 2), (3, 0), (257, 0)] {
+    for (k, a) in [(3, 2), (1, 1), (256, 256), (0, 2), (3, 0), (257, 0)] {
         through_all(reached, k, a, &trace);
         other_tables(reached, k, a, &trace, rng);
         schedule(reached, k, a, &trace, 5);
