@@ -4,8 +4,11 @@
 //! `model` is the second implementation: slow where slow is plainer.
 //! `plain` has the versions without checks that the timings compare with.
 
+#[cfg(feature = "exports")]
+pub mod calls;
+#[cfg(feature = "exports")]
+pub mod comparisons;
 pub mod damage;
-#[cfg(any(feature = "judge", feature = "exports"))]
 pub mod exported;
 pub mod judge_cases;
 pub mod model;
@@ -13,6 +16,7 @@ pub mod plain;
 pub mod report;
 pub mod rng;
 pub mod schedules;
+#[cfg(feature = "exports")]
 pub mod states;
 pub mod timing;
 pub mod traces;

@@ -1,2 +1,3 @@
-pub mod Signed
-pub mod Runs
+pub mod Records
+pub mod Fields
+pub mod Cases

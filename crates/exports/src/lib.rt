@@ -1,8 +1,17 @@
-// The proved calls that tests and timings of the repository call from outside, exported to C. Every answer is one signed number: the
-// figure, or the refusal's number made negative. Lent lists come back as the call that serves them leaves them.
-//   signed     the one signed number
-//   traces     MIN, LRU and the layers over whole traces
-//   requests   single requests to LRU and to the layers
-mod requests;
-mod signed;
-mod traces;
+// The public calls of the crates, exported to C for the tests and timings of the repository. Each call stores the fields of its answer into the
+// first places of `out`, as many as there is room for, and leaves the other lent lists as the call behind it leaves them. None asks for anything
+// of its caller. specs/Fields.antt has the fields of each answer that is a record, specs/Cases.antt those of each answer that is an enum.
+//   store         how fields are stored
+//   sizes         k and a
+//   lru_calls     least recent use, a request and a trace
+//   min_calls     farthest next use, its counts and its schedule
+//   layers_calls  the layers, a request, the questions and a trace
+//   reader_calls  what stands at an offset of a file
+//   writer_calls  a record into lent bytes
+mod layers_calls;
+mod lru_calls;
+mod min_calls;
+mod reader_calls;
+mod sizes;
+mod store;
+mod writer_calls;

@@ -1,9 +1,13 @@
-//! On small traces every legal schedule is tried, pages fetched ahead included. Nothing of the proved
-//! crates is run: this is why the second implementation may be believed.
+//! Compares the second implementation with brute force, so that it may be believed. k is 1 to 4.
 //!
-//! - MIN's count is the least cost, LRU's is within k/a rounded up of it, the layers' count equals it.
-//! - A set is answered possible exactly if MIN can hold it, over every continuation.
-//! - The judge accepts exactly the schedules that the search walks through.
+//! - On every trace of up to 6 requests for 4 pages, the least cost of all legal schedules is found from the
+//!   cheapest way to hold each set of pages after each request, one page that is only fetched ahead
+//!   included. MIN's count and the layers' count are that cost, and LRU's count is at most k/a, rounded up,
+//!   times it.
+//! - On those of up to 5 requests, each set is answered possible exactly if MIN holds it for some
+//!   continuation without repeats; on those of up to 3, for some continuation of up to 4 requests as well.
+//! - On every file of up to two entries for traces of up to 3 requests, with k up to 2, the judge answers a
+//!   cost exactly if the entries are legal by document 01's paragraph, and that cost.
 
 use bench_tests::model::files::{schedule_file, trace_file, Entry};
 use bench_tests::model::layers::{self, Possible};

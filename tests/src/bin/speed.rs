@@ -23,6 +23,13 @@ fn low_half_zero(name: usize) -> u32 {
     (name as u32) << 16
 }
 
+/// One field of what a call stores.
+fn field(place: usize, call: impl FnOnce(&mut [u64])) -> u64 {
+    let mut out = [0; 8];
+    call(&mut out);
+    out[place]
+}
+
 /// The timed traces with their names: four kinds with scattered pages, and for a 1 one with equal low
 /// halves.
 fn traces(a: u32, n: usize) -> Vec<(String, Vec<u32>)> {
@@ -71,7 +78,7 @@ fn time_next(table: &mut Table) {
             "next requests (MIN, k 1)",
             name,
             1,
-            &mut || exports::min_loads(1, 1, opaque(&pages)) > 0,
+            &mut || field(2, |out| exports::min_count(1, 1, opaque(&pages), out)) > 0,
             &mut || plain::min::lefts(opaque(&pages)).len() == TRACE_MAX,
         );
     }
@@ -80,23 +87,23 @@ fn time_next(table: &mut Table) {
 fn time_min(table: &mut Table) {
     for a in [1, 64] {
         for (name, pages) in traces(a, TRACE_MAX) {
-            table.row("MIN", name, 1, &mut || exports::min_bundles(K, a, opaque(&pages)), &mut || {
-                i64::from(plain::min::run(K, a, opaque(&pages), |_, _| {}).0)
-            });
+            let ours = || field(1, |out| exports::min_count(K, a, opaque(&pages), out));
+            let plain = || u64::from(plain::min::run(K, a, opaque(&pages), |_, _| {}).0);
+            table.row("MIN", name, 1, &mut { ours }, &mut { plain });
         }
     }
 }
 
 fn time_min_schedule(table: &mut Table) {
-    let mut out = vec![0; 6 + TRACE_MAX * 12];
+    let mut bytes = vec![0; 6 + TRACE_MAX * 12];
     for a in [1, 64] {
         for (name, pages) in traces(a, TRACE_MAX) {
             table.row(
                 "MIN and its schedule",
                 name,
                 1,
-                &mut || exports::min_schedule(K, a, opaque(&pages), &mut out),
-                &mut || plain::min::schedule(K, a, opaque(&pages)).len() as i64,
+                &mut || field(3, |out| exports::min_schedule(K, a, opaque(&pages), &mut bytes, out)),
+                &mut || plain::min::schedule(K, a, opaque(&pages)).len() as u64,
             );
         }
     }
@@ -105,9 +112,9 @@ fn time_min_schedule(table: &mut Table) {
 fn time_lru(table: &mut Table) {
     for a in [1, 64] {
         for (name, pages) in traces(a, TRACE_MAX) {
-            table.row("LRU", name, 1, &mut || exports::lru_bundles(K, a, opaque(&pages)), &mut || {
-                i64::from(plain::lru::run(K, a, opaque(&pages)).0)
-            });
+            let ours = || field(1, |out| exports::lru_over_trace(K, a, opaque(&pages), out));
+            let plain = || u64::from(plain::lru::run(K, a, opaque(&pages)).0);
+            table.row("LRU", name, 1, &mut { ours }, &mut { plain });
         }
     }
 }
@@ -120,13 +127,14 @@ fn time_lru_requests(table: &mut Table, what: &str, page: fn(usize) -> usize, na
     let pages: Vec<u32> = (0..CALLS).map(|call| name(page(call))).collect();
     let ours = || {
         let (mut cache, mut evicted) = (start.clone(), [0; 1]);
-        let mut serve = |page| exports::lru_request(&record, K, &mut cache, &mut evicted, page);
-        pages.iter().map(|&page| serve(page)).sum::<i64>()
+        let mut serve =
+            |page| field(7, |out| exports::lru_request(&record, K, &mut cache, &mut evicted, page, out));
+        pages.iter().map(|&page| serve(page)).sum::<u64>()
     };
     let plain = || {
         let (mut cache, mut evicted, mut count) = (start.clone(), [0; 1], K as usize);
         let mut serve = |page| plain::lru::request(K as usize, 1, &mut count, &mut cache, &mut evicted, page);
-        pages.iter().map(|&page| i64::from(serve(page))).sum::<i64>()
+        pages.iter().map(|&page| u64::from(serve(page))).sum::<u64>()
     };
     table.row("one LRU request", what.to_string(), CALLS, &mut { ours }, &mut { plain });
 }
@@ -138,9 +146,11 @@ fn time_layers(table: &mut Table) {
             let ours = || {
                 places.fill(0);
                 numbers.fill(0);
-                exports::layers_bundles(K, a, opaque(&pages), &mut places, &mut numbers)
+                field(1, |out| {
+                    exports::layers_over_trace(K, a, opaque(&pages), &mut places, &mut numbers, out)
+                })
             };
-            let plain = || i64::from(plain::layers::run(K, a, opaque(&pages)).0);
+            let plain = || u64::from(plain::layers::run(K, a, opaque(&pages)).0);
             table.row("layers", name, 1, &mut { ours }, &mut { plain });
         }
     }
@@ -176,12 +186,12 @@ fn time_layers_request(table: &mut Table, what: String, long: &plain::layers::Ta
     }
     let ours = || {
         let (mut pages, mut numbers) = lists.pop().expect("a copy for each repeat");
-        exports::layers_request(&record, &mut pages, &mut numbers, page)
+        field(5, |out| exports::layers_request(&record, &mut pages, &mut numbers, page, out))
     };
     let plain = || {
         let mut long = longs.pop().expect("a copy for each repeat");
         long.request(K, 128, page);
-        i64::from(long.s)
+        u64::from(long.s)
     };
     let job = if places == 4_096 {
         "one layers request, 4,096 places"

@@ -82,7 +82,9 @@ fn others(cases: &mut Cases) {
     cases.same("a = k", bundles(3, 3, &SHIFT), [2, 2, 2]);
     cases.same("a = k + 1", min::run(3, 4, &SHIFT), Err(2));
     let mut bytes = [7; 40];
-    cases.same("an empty trace", min::write(3, 2, &[], &mut bytes), Ok(6));
+    let length =
+        |trace: &[u32], bytes: &mut [u8]| min::write(3, 2, trace, bytes).map(|written| written.length);
+    cases.same("an empty trace", length(&[], &mut bytes), Ok(6));
     let empty = files::trace_file(3, 2, &[]);
     cases.same(
         "its lines",
@@ -91,9 +93,9 @@ fn others(cases: &mut Cases) {
     );
     cases.same("5 5 5", min::run(3, 2, &[5, 5, 5]).map(|run| (run.bundles, run.loads)), Ok((vec![], 1)));
     let mut bytes = [7; 40];
-    cases.same("37 bytes", min::write(3, 2, &SHIFT, &mut bytes[..37]), Err(8));
+    cases.same("37 bytes", length(&SHIFT, &mut bytes[..37]), Err(8));
     cases.same("37 bytes, untouched", bytes, [7; 40]);
-    cases.same("38 bytes", min::write(3, 2, &SHIFT, &mut bytes), Ok(38));
+    cases.same("38 bytes", length(&SHIFT, &mut bytes), Ok(38));
     cases.same("bytes past them", bytes[38..].to_vec(), vec![7, 7]);
     let trace = files::trace_file(3, 2, &SHIFT);
     cases.same("its judgement", judge::judge(&trace, &bytes[..38]), Ok(2));

@@ -1,6 +1,6 @@
 //! Files: the four records, read one by one, and written.
 
-use super::{check_sizes, Refusal};
+use super::{check_sizes, Refusal, K_MAX};
 
 /// A trace's file, read.
 #[derive(Clone, Debug, PartialEq, Eq)]
@@ -17,6 +17,17 @@ pub enum Entry {
     Pf { t: u32, page: u32 },
 }
 
+/// What a reader finds at an offset of a file, with the offset behind it. An EV's n pages start at
+/// `from`.
+#[derive(Clone, Copy, Debug, PartialEq, Eq)]
+pub enum Found {
+    End,
+    Sizes { k: u32, a: u32, next: usize },
+    Request { page: u32, next: usize },
+    Bundle { t: u32, n: u32, from: usize, next: usize },
+    Fetch { t: u32, page: u32, next: usize },
+}
+
 /// A place in a file.
 pub struct Cursor<'a> {
     rest: &'a [u8],
@@ -25,6 +36,16 @@ pub struct Cursor<'a> {
 impl<'a> Cursor<'a> {
     pub fn new(bytes: &'a [u8]) -> Self {
         Cursor { rest: bytes }
+    }
+
+    /// At an offset; 9 if it is past the end.
+    fn at(file: &'a [u8], offset: usize) -> Result<Self, Refusal> {
+        file.get(offset..).map(Cursor::new).ok_or(9)
+    }
+
+    /// The offset in the file that the cursor was made of.
+    fn offset(&self, file: &[u8]) -> usize {
+        file.len() - self.rest.len()
     }
 
     pub fn at_end(&self) -> bool {
@@ -102,6 +123,82 @@ pub fn read_trace(bytes: &[u8], most: usize) -> Result<Trace, Refusal> {
         pages.push(page);
     }
     Ok(Trace { k, a, pages })
+}
+
+/// The KA at the start of a file.
+pub fn start(file: &[u8]) -> Result<Found, Refusal> {
+    let mut cursor = Cursor::new(file);
+    let (k, a) = cursor.sizes()?;
+    Ok(Found::Sizes { k, a, next: cursor.offset(file) })
+}
+
+/// The trace reader: at offset 0 it expects KA, elsewhere RQ or the end.
+pub fn trace_record(file: &[u8], at: usize) -> Result<Found, Refusal> {
+    let mut cursor = Cursor::at(file, at)?;
+    if at == 0 {
+        return start(file);
+    }
+    if cursor.at_end() {
+        return Ok(Found::End);
+    }
+    let page = cursor.request()?;
+    Ok(Found::Request { page, next: cursor.offset(file) })
+}
+
+/// The schedule reader does likewise with EV and PF. An EV's n is at most `bound`, and at most 256.
+pub fn schedule_record(file: &[u8], at: usize, bound: u32) -> Result<Found, Refusal> {
+    let mut cursor = Cursor::at(file, at)?;
+    if at == 0 {
+        return start(file);
+    }
+    if cursor.at_end() {
+        return Ok(Found::End);
+    }
+    let entry = cursor.entry(bound.min(K_MAX))?;
+    let next = cursor.offset(file);
+    Ok(match entry {
+        Entry::Ev { t, pages } => {
+            Found::Bundle { t, n: pages.len() as u32, from: next - 4 * pages.len(), next }
+        }
+        Entry::Pf { t, page } => Found::Fetch { t, page, next },
+    })
+}
+
+/// The bytes of n pages from an offset on, as a part of the file; those that are there.
+pub fn pages_part(file: &[u8], from: usize, n: usize) -> &[u8] {
+    let rest = file.get(from..).unwrap_or(&[]);
+    &rest[..rest.len().min(n.saturating_mul(4))]
+}
+
+/// Writes a record's bytes into lent ones from an offset on and gives the offset behind it; 9, then 8.
+fn write(record: &[u8], bytes: &mut [u8], at: usize) -> Result<usize, Refusal> {
+    let rest = bytes.get_mut(at..).ok_or(9u32)?;
+    rest.get_mut(..record.len()).ok_or(8u32)?.copy_from_slice(record);
+    Ok(at + record.len())
+}
+
+/// The writers: what is wrong with the record itself comes before 9 and 8.
+pub fn write_sizes(bytes: &mut [u8], at: usize, k: u32, a: u32) -> Result<usize, Refusal> {
+    check_sizes(k, a)?;
+    let mut record = Vec::new();
+    put_sizes(&mut record, k, a);
+    write(&record, bytes, at)
+}
+
+pub fn write_request(bytes: &mut [u8], at: usize, page: u32) -> Result<usize, Refusal> {
+    let mut record = Vec::new();
+    put_request(&mut record, page);
+    write(&record, bytes, at)
+}
+
+pub fn write_entry(bytes: &mut [u8], at: usize, entry: &Entry) -> Result<usize, Refusal> {
+    match entry {
+        Entry::Ev { pages, .. } if pages.is_empty() || pages.len() > K_MAX as usize => return Err(6),
+        _ => {}
+    }
+    let mut record = Vec::new();
+    put_entry(&mut record, entry);
+    write(&record, bytes, at)
 }
 
 pub fn put_sizes(out: &mut Vec<u8>, k: u32, a: u32) {

@@ -1,6 +1,6 @@
 //! The layers, one request at a time, their questions, and a whole trace.
 
-use super::{check_sizes, Refusal};
+use super::{check_sizes, check_trace, Refusal};
 use std::collections::BTreeSet;
 
 /// The layers' record.
@@ -156,12 +156,17 @@ fn from_below(layers: &Layers, set: &BTreeSet<u32>, i: usize) -> usize {
     set.iter().filter(|page| !layers[i..].iter().any(|layer| layer.contains(page))).count()
 }
 
+/// More than i pages of a set are in L0 to Li, for an i from 0 to s.
+fn breaks_at(layers: &Layers, set: &BTreeSet<u32>, i: usize) -> bool {
+    i <= layers.len() && from_below(layers, set, i) > i
+}
+
 /// Document 01's possible set, with the smallest layer of a "no".
 pub fn possible_of(layers: &Layers, set: &BTreeSet<u32>) -> Possible {
     if set.len() != layers.len() {
         return Possible::CountDiffers;
     }
-    match (0..=layers.len()).find(|&i| from_below(layers, set, i) > i) {
+    match (0..=layers.len()).find(|&i| breaks_at(layers, set, i)) {
         Some(i) => Possible::BreaksAt(i as u32),
         None => Possible::Yes,
     }
@@ -175,6 +180,13 @@ pub fn possible(record: &Record, pages: &[u32], numbers: &[u32], set: &[u32]) ->
         return Err(11);
     }
     Ok(possible_of(&layers, &different))
+}
+
+/// Whether a "no" may name the layer i for a set that is not refused: document 01 leaves it open which.
+pub fn may_name(record: &Record, pages: &[u32], numbers: &[u32], set: &[u32], i: u64) -> bool {
+    let set: BTreeSet<u32> = set.iter().copied().collect();
+    let layers = check(record, pages, numbers);
+    usize::try_from(i).map_or(false, |i| layers.map_or(false, |layers| breaks_at(&layers, &set, i)))
 }
 
 /// What a whole trace does, from no layers and with room for every page.
@@ -192,4 +204,32 @@ pub fn run(k: u32, a: u32, trace: &[u32]) -> Result<Run, Refusal> {
         bundles += u32::from(serve(k, a, &mut layers, page));
     }
     Ok(Run { bundles, layers })
+}
+
+/// A whole trace on a lent table that is all unused: 1, 2, 3, 8 for unequal lists, 9 where a place is
+/// used, 10 where the layers after some request hold more pages than there are places. A refusal leaves
+/// the table as it was lent.
+pub fn over_trace(
+    k: u32,
+    a: u32,
+    trace: &[u32],
+    pages: &mut [u32],
+    numbers: &mut [u32],
+) -> Result<Run, Refusal> {
+    check_trace(k, a, trace)?;
+    if pages.len() != numbers.len() {
+        return Err(8);
+    }
+    if pages.iter().chain(numbers.iter()).any(|&held| held != 0) {
+        return Err(9);
+    }
+    let mut run = Run { bundles: 0, layers: Vec::new() };
+    for &page in trace {
+        run.bundles += u32::from(serve(k, a, &mut run.layers, page));
+        if run.layers.iter().map(BTreeSet::len).sum::<usize>() > pages.len() {
+            return Err(10);
+        }
+    }
+    write_table(&run.layers, pages, numbers);
+    Ok(run)
 }

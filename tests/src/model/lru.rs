@@ -1,6 +1,6 @@
 //! Least recent use, one request at a time and over a whole trace.
 
-use super::{check_sizes, Bundle, Refusal};
+use super::{check_sizes, check_trace, Bundle, Refusal};
 use std::collections::BTreeSet;
 
 /// The run record.
@@ -96,7 +96,7 @@ pub struct Run {
 }
 
 pub fn run(k: u32, a: u32, trace: &[u32]) -> Result<Run, Refusal> {
-    check_sizes(k, a)?;
+    check_trace(k, a, trace)?;
     let mut buffer = Vec::new();
     let mut run = Run { bundles: Vec::new(), loads: 0 };
     for (t, &page) in trace.iter().enumerate() {

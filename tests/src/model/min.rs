@@ -70,13 +70,21 @@ pub fn schedule(k: u32, a: u32, bundles: &[Bundle]) -> Vec<u8> {
     schedule_file(k, a, &entries)
 }
 
-/// Writes the schedule into lent bytes and gives its length; 8, with nothing written, if they are
-/// too few.
-pub fn write(k: u32, a: u32, trace: &[u32], out: &mut [u8]) -> Result<u32, Refusal> {
-    let bytes = schedule(k, a, &run(k, a, trace)?.bundles);
+/// What the call that writes a schedule answers.
+#[derive(Clone, Debug, PartialEq, Eq)]
+pub struct Written {
+    pub bundles: u32,
+    pub loads: u32,
+    pub length: u32,
+}
+
+/// Writes the schedule into lent bytes; 8, with nothing written, if they are too few.
+pub fn write(k: u32, a: u32, trace: &[u32], out: &mut [u8]) -> Result<Written, Refusal> {
+    let run = run(k, a, trace)?;
+    let bytes = schedule(k, a, &run.bundles);
     if out.len() < bytes.len() {
         return Err(8);
     }
     out[..bytes.len()].copy_from_slice(&bytes);
-    Ok(bytes.len() as u32)
+    Ok(Written { bundles: run.bundles.len() as u32, loads: run.loads, length: bytes.len() as u32 })
 }

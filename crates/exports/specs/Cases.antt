@@ -1,0 +1,52 @@
+-- The fields of each answer that is an enum: the number of its case first, 0 for a refusal, then what the case holds, then zeros.
+use Prim.Native.Nat.{ℕ}
+use mathlib.Core.Path.{_≡_}
+use mathlib.Core.List.{List, [], _∷_}
+use Rattle.lists.specs.Places.{pasted}
+use Rattle.reading.specs.Reading.{Answer, refused, ended, sizes, request, bundle, fetch}
+use Rattle.records.specs.Answers.{writtenNumbers}
+use Rattle.reading.specs.Answers.{startAnswer, traceAnswer, scheduleAnswer}
+use Rattle.reading.specs.declared.Start.{Start}
+use Rattle.reading.specs.declared.TraceRecord.{TraceRecord}
+use Rattle.reading.specs.declared.ScheduleRecord.{ScheduleRecord}
+use Rattle.records.specs.declared.write.Written.{Written}
+use Rattle.layers.specs.Questions.{PossibleTold}
+use Rattle.layers.specs.declared.LayersRun.{LayersRun}
+use Rattle.layers.specs.declared.PossibleAnswer.{PossibleAnswer}
+use Rattle.layers.specs.declared.PossibleAnswer.the-variants.{Yes, CountDiffers, BrokenAt, Refused}
+use Rattle.exports.specs.Fields.{wroteFields}
+
+-- what stands at an offset of a file
+abbrev pub answerFields : Answer → List ℕ
+answerFields (refused number) = 0 ∷ number ∷ 0 ∷ 0 ∷ 0 ∷ []
+answerFields ended = 1 ∷ 0 ∷ 0 ∷ 0 ∷ 0 ∷ []
+answerFields (sizes k a next) = 2 ∷ k ∷ a ∷ next ∷ 0 ∷ []
+answerFields (request page next) = 3 ∷ page ∷ next ∷ 0 ∷ 0 ∷ []
+answerFields (bundle t n from next) = 4 ∷ t ∷ n ∷ from ∷ next ∷ []
+answerFields (fetch t page next) = 5 ∷ t ∷ page ∷ next ∷ 0 ∷ []
+
+abbrev pub startFields : Start → List ℕ
+startFields r = answerFields (startAnswer r)
+
+abbrev pub traceFields : TraceRecord → List ℕ
+traceFields r = answerFields (traceAnswer r)
+
+abbrev pub scheduleFields : ScheduleRecord → List ℕ
+scheduleFields r = answerFields (scheduleAnswer r)
+
+-- a writer's answer is a record to its definition, which has the refusal and the offset behind the record
+abbrev pub writtenFields : Written → List ℕ
+writtenFields r = wroteFields (writtenNumbers r)
+
+-- whether a set is possible
+abbrev pub possibleFields : PossibleAnswer → List ℕ
+possibleFields (Refused number) = 0 ∷ number ∷ []
+possibleFields Yes = 1 ∷ 0 ∷ []
+possibleFields CountDiffers = 2 ∷ 0 ∷ []
+possibleFields (BrokenAt i) = 3 ∷ i ∷ []
+
+-- an answer that the question may give is stored
+pub record PossibleStored (run : LayersRun) (pages numbers set before after : List ℕ) : Type 0 where
+  pub answer : PossibleAnswer
+  pub told : PossibleTold run pages numbers set answer
+  pub stored : after ≡ pasted (possibleFields answer) before

@@ -1,0 +1,36 @@
+-- The fields of each answer that is a record, in the order in which a caller receives them: the refusal's number first, 0 for none.
+use Prim.Native.Nat.{ℕ}
+use mathlib.Core.List.{List, [], _∷_}
+use Rattle.records.specs.Writing.{Wrote}
+use Rattle.lru.specs.declared.Reply.{Reply}
+use Rattle.lru.specs.declared.Totals.{Totals}
+use Rattle.min.specs.declared.Counts.{Counts}
+use Rattle.min.specs.declared.Scheduled.{Scheduled}
+use Rattle.layers.specs.declared.LayersReply.{LayersReply}
+use Rattle.layers.specs.declared.RevealedReply.{RevealedReply}
+use Rattle.layers.specs.declared.LayersTotals.{LayersTotals}
+
+abbrev pub lruReplyFields : Reply → List ℕ
+lruReplyFields r =
+    r .refusal ∷ r .run .k ∷ r .run .a ∷ r .run .requests ∷ r .run .loads ∷ r .run .evictions ∷ r .count ∷ r .answer ∷ []
+
+abbrev pub lruTotalsFields : Totals → List ℕ
+lruTotalsFields r = r .refusal ∷ r .bundles ∷ r .loads ∷ []
+
+abbrev pub countsFields : Counts → List ℕ
+countsFields r = r .refusal ∷ r .bundles ∷ r .loads ∷ []
+
+abbrev pub scheduledFields : Scheduled → List ℕ
+scheduledFields r = r .refusal ∷ r .bundles ∷ r .loads ∷ r .length ∷ []
+
+abbrev pub layersReplyFields : LayersReply → List ℕ
+layersReplyFields r = r .refusal ∷ r .run .k ∷ r .run .a ∷ r .run .requests ∷ r .run .evictions ∷ r .run .s ∷ []
+
+abbrev pub revealedFields : RevealedReply → List ℕ
+revealedFields r = r .refusal ∷ r .count ∷ []
+
+abbrev pub layersTotalsFields : LayersTotals → List ℕ
+layersTotalsFields r = r .refusal ∷ r .bundles ∷ r .s ∷ r .revealed ∷ []
+
+abbrev pub wroteFields : Wrote → List ℕ
+wroteFields r = r .refusal ∷ r .next ∷ []
