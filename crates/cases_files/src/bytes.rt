@@ -1,0 +1,38 @@
+// Lists of numbers as bytes.
+ghost use Rattle.io.specs.Counts.{Counts};
+
+// The numbers of a list as bytes, the lower 8 bits of each, as many as there is room for; their count.
+pub fn to_bytes(list: &[u32], bytes: &mut [u8]) -> usize
+    ensures { λ r. ⌜ Counts r (now (bytes .exit)) ⌝ }
+{
+    let mut i = 0;
+    while i < list.len() {
+        if i == bytes.len() {
+            return i;
+        }
+        bytes[i] = (list[i] % 256) as u8;
+        i += 1;
+    }
+    i
+}
+
+// Bytes as the first numbers of a list, as many as there is room for.
+pub fn to_numbers(bytes: &[u8; 64], list: &mut [u32]) {
+    let mut i = 0;
+    while i < 64 {
+        if i == list.len() {
+            return;
+        }
+        list[i] = wide(bytes[i]);
+        i += 1;
+    }
+}
+
+fn wide(b: u8) -> u32 {
+    b as u32
+}
+
+// A number as an offset.
+pub fn offset(n: u32) -> usize {
+    n as usize
+}
