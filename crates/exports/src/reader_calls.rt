@@ -11,7 +11,6 @@ ghost use Rattle.exports.specs.Cases.{answerFields, startFields, traceFi
 use crate::store;
 use readers::schedule::schedule_at;
 use readers::trace::trace_at;
-use records::read as reading;
 
 // The KA at the start of a file.
 #[no_mangle]
