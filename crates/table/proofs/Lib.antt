@@ -1,3 +1,3 @@
 pub mod Serving
-pub mod LiftLaws
+pub mod Numbers
 pub mod QuickLaws

@@ -2,12 +2,13 @@
 use Prim.Native.Nat.{ℕ, zero, suc, _+_, _-_, _≤_, _<_, max}
 use native.Mathlib.Numerals.{add-one}
 use native.Mathlib.Omega.{arith}
-use mathlib.Core.Bool.{true, false, not}
+use mathlib.Core.Bool.{true, false, not, _&&_}
 use mathlib.Core.List.{List, [], _∷_, _++_, map, append-assoc, append-nil}
 use mathlib.Core.Path.{_≡_, refl, sym, ap, _∙_}
 use lib.Dec.{eqb, ltb}
 use lib.ListN.{length, take, drop, getD, set, replicate, length-append, length-replicate, drop-of-length-le}
 use lib.Seq.{drop-cons, take-suc, take-all, set-at, getD-at, take-at, drop-at}
+use mir.Val.{boolByte}
 use borrow.Author.Tests.{lt-ltb, le-ltb}
 use Rattle.lists.specs.Choice.{pick}
 use Rattle.lists.specs.Pages.{filter}
@@ -17,10 +18,12 @@ use Rattle.lists.proofs.Sorting.{length-sort}
 use Rattle.paging.specs.Layers.{LayerRule, layerRule, renumbered, topAfter}
 use Rattle.paging.specs.Rows.{rowAt, rowsOf, unused, usedRows, tableOf}
 use Rattle.paging.specs.Table.{numberIn, renumberedRow, aboveZero, othersAfter, ruleIn, rowsAfter}
-use Rattle.paging.proofs.Rows.{rows-length, rows-get, rows-set, rows-take, rows-drop, rows-append}
+use Rattle.paging.proofs.Rows.{rows-length, rows-get, rows-take, rows-drop, rows-append}
 use Rattle.paging.proofs.Table.{numberIn-aboveZero, renumbered-zero}
-use Rattle.table.specs.Serving.{numberAfter, rowMoved, moved, served, SteppedTo, ruleOf}
+use Rattle.table.specs.Serving.{changeFor, changed, numberAfter, rowMoved, moved, served, SteppedTo, ruleOf}
 use Rattle.table.specs.declared.Change.{Change}
+use Rattle.table.specs.declared.RuleApplied.{RuleApplied}
+use Rattle.table.proofs.Numbers.{changed-is, stays-is}
 
 -- The number of a page: what is passed, and what is left
 
@@ -63,22 +66,21 @@ moved-next c rows i h =
     rw (add-one i, take-suc rows i unused h) (moved-append c (take i rows) (getD rows i unused ∷ []))
 
 -- counting the rows that stay
-pub kept-one : (c : Change) (ns ps : List ℕ) (i n m : ℕ) → length ps ≡ length ns → i < length ps
-    → m ≡ numberAfter c (getD ns i 0) (getD ps i 0) → 0 < m → n ≡ length (moved c (take i (rowsOf ns ps))) → n + 1 ≡ length (moved c (take (i + 1) (rowsOf ns ps)))
-kept-one c ns ps i n m e h at k was =
-    let row = rows-get ns ps i e in
-    let all = rows-length ns ps e in
-    let one : moved c (getD (rowsOf ns ps) i unused ∷ []) ≡ rowMoved c (rowAt (getD ns i 0) (getD ps i 0)) ∷ [] = rw row (moved-kept c (rowAt (getD ns i 0) (getD ps i 0)) (omega arith)) in
-    rw (moved-next c (rowsOf ns ps) i (omega arith), one, length-append (moved c (take i (rowsOf ns ps))) (rowMoved c (rowAt (getD ns i 0) (getD ps i 0)) ∷ []))
-    (omega arith)
+one-moved : (c : Change) (n q : ℕ) → length (moved c (rowAt n q ∷ [])) ≡ boolByte (ltb 0 (numberAfter c n q))
+one-moved c n q = cases (ltb 0 (numberAfter c n q)) (λ e. rw e) (λ e. rw e)
 
-pub kept-none : (c : Change) (ns ps : List ℕ) (i n m : ℕ) → length ps ≡ length ns → i < length ps
-    → m ≡ numberAfter c (getD ns i 0) (getD ps i 0) → m ≤ 0 → n ≡ length (moved c (take i (rowsOf ns ps))) → n ≡ length (moved c (take (i + 1) (rowsOf ns ps)))
-kept-none c ns ps i n m e h at k was =
-    let row = rows-get ns ps i e in
+pub kept-next : (c : Change) (ns ps : List ℕ) (i n most : ℕ) → length ps ≡ length ns → i < length ps
+    → ltb most (getD ns i 0) ≡ ltb 0 (changed c (getD ns i 0)) → n ≡ length (moved c (take i (rowsOf ns ps)))
+    → n + boolByte (not (eqb (getD ps i 0) (c .page)) && ltb most (getD ns i 0)) ≡ length (moved c (take (i + 1) (rowsOf ns ps)))
+kept-next c ns ps i n most e h told was =
     let all = rows-length ns ps e in
-    let none : moved c (getD (rowsOf ns ps) i unused ∷ []) ≡ [] = rw row (moved-dropped c (rowAt (getD ns i 0) (getD ps i 0)) (omega arith)) in
-    rw (moved-next c (rowsOf ns ps) i (omega arith), none, length-append (moved c (take i (rowsOf ns ps))) []) (omega arith)
+    rw (
+      stays-is c most (getD ns i 0) (getD ps i 0) told,
+      moved-next c (rowsOf ns ps) i (omega arith),
+      length-append (moved c (take i (rowsOf ns ps))) (moved c (getD (rowsOf ns ps) i unused ∷ [])),
+      rows-get ns ps i e,
+      one-moved c (getD ns i 0) (getD ps i 0),
+    ) (omega arith)
 
 pub kept-end : (c : Change) (ns ps : List ℕ) (i n : ℕ) → length ps ≡ length ns → length ps ≤ i
     → n ≡ length (moved c (take i (rowsOf ns ps))) → n ≡ length (moved c (rowsOf ns ps))
@@ -158,16 +160,16 @@ module _ (c : Change) (ns₀ ps₀ ns ps : List ℕ) (to from m : ℕ) (e : leng
   row-read : rowAt (getD ns from 0) (getD ps from 0) ≡ getD (rowsOf ns₀ ps₀) from unused
   row-read = sym (rows-get ns ps from (omega arith)) ∙ renumbering-reads c (rowsOf ns₀ ps₀) (rowsOf ns ps) to from in-rows r
 
-  pub turn-drops : m ≤ 0 → Renumbering c (rowsOf ns₀ ps₀) (rowsOf (set ns from 0) (set ps from 0)) to (from + 1)
-  turn-drops gone =
-      rw (rows-set ns ps from 0 0)
-      (renumbering-drops c (rowsOf ns₀ ps₀) (rowsOf ns ps) to from in-rows r (rw (← row-read) (omega arith)))
+  pub turn-drops : (after : List Row) → m ≤ 0 → after ≡ set (rowsOf ns ps) from unused → Renumbering c (rowsOf ns₀ ps₀) after to (from + 1)
+  turn-drops after gone put =
+      rw put (renumbering-drops c (rowsOf ns₀ ps₀) (rowsOf ns ps) to from in-rows r (rw (← row-read) (omega arith)))
 
-  pub turn-keeps : 0 < m → Renumbering c (rowsOf ns₀ ps₀) (rowsOf (set (set ns from 0) to m) (set (set ps from 0) to (getD ps from 0))) (to + 1) (from + 1)
-  turn-keeps stays =
+  pub turn-keeps : (freed after : List Row) → 0 < m → freed ≡ set (rowsOf ns ps) from unused → after ≡ set freed to (rowAt m (getD ps from 0))
+      → Renumbering c (rowsOf ns₀ ps₀) after (to + 1) (from + 1)
+  turn-keeps freed after stays free put =
       let kept : rowMoved c (getD (rowsOf ns₀ ps₀) from unused) ≡ rowAt m (getD ps from 0) =
       rw (← row-read) (rw (sym told)) in
-      rw (rows-set (set ns from 0) (set ps from 0) to m (getD ps from 0), rows-set ns ps from 0 0)
+      rw (put, free)
       (rw kept at (renumbering-keeps c (rowsOf ns₀ ps₀) (rowsOf ns ps) to from in-rows r (rw (← row-read) (omega arith))))
 
 pub renumbering-end : (c : Change) (ns₀ ps₀ ns ps : List ℕ) (to from : ℕ) → length ps₀ ≡ length ns₀ → length ps₀ ≤ from → from ≤ length ps₀
@@ -184,38 +186,38 @@ renumbering-end c ns₀ ps₀ ns ps to from e h g r =
 -- The steps together
 
 -- renumbering and dropping at once is what the model does in three steps
-pub moved-is : (c : Change) (rows : List Row)
-    → moved c rows ≡ filter aboveZero (map (renumberedRow (ruleOf (c .rule)) (c .k) (c .a) (c .i)) (filter (λ row. not (eqb (row .page) (c .page))) rows))
-moved-is c [] = refl
-moved-is c (x ∷ xs) =
-    cases (eqb (x .page) (c .page))
-    (λ e. rw e (moved-is c xs))
-    (λ e. rw e (cases (ltb 0 (renumbered (ruleOf (c .rule)) (c .k) (c .a) (c .i) (x .number)))
-    (λ f. rw f (ap (λ rest. rowAt (renumbered (ruleOf (c .rule)) (c .k) (c .a) (c .i) (x .number)) (x .page) ∷ rest) (moved-is c xs)))
-    (λ f. rw f (moved-is c xs))))
+pub moved-is : (rule : LayerRule) (k a i p : ℕ) (rows : List Row) → ((j : ℕ) → getD rows j unused .number ≤ 4294967295)
+    → moved (changeFor rule k a i p) rows ≡ filter aboveZero (map (renumberedRow rule k a i) (filter (λ row. not (eqb (row .page) p)) rows))
+moved-is rule k a i p [] small = refl
+moved-is rule k a i p (x ∷ xs) small =
+    let rest = moved-is rule k a i p xs (λ j. small (suc j)) in
+    cases (eqb (x .page) p)
+    (λ e. rw e rest)
+    (λ e. rw (e, changed-is rule k a i p (x .number) (small 0)) (cases (ltb 0 (renumbered rule k a i (x .number)))
+    (λ f. rw f (ap (λ others. rowAt (renumbered rule k a i (x .number)) (x .page) ∷ others) rest))
+    (λ f. rw f rest)))
 
-pub served-is : (c : Change) (k a s p : ℕ) (rows : List Row) → c .k ≡ k → c .a ≡ a → c .page ≡ p → c .i ≡ numberIn rows p → ruleOf (c .rule) ≡ layerRule k (c .i) s
-    → served c s rows ≡ rowsAfter k a s p rows
-served-is c k a s p rows ek ea ep ei er =
-    rw (moved-is c rows, er, ek, ea, ep, ei)
+pub served-is : (c : Change) (rule : LayerRule) (k a i s p : ℕ) (rows : List Row) → ((j : ℕ) → getD rows j unused .number ≤ 4294967295)
+    → c ≡ changeFor rule k a i p → i ≡ numberIn rows p → rule ≡ layerRule k i s → served c (topAfter rule k a s) rows ≡ rowsAfter k a s p rows
+served-is c rule k a i s p rows small ec ei er = rw (ec, moved-is rule k a i p rows small, er, ei)
 
 -- the front sorted, and the requested page put behind it
-pub serve-end : (M : List Row) (ns ps ns′ ps′ : List ℕ) (n places top p : ℕ) → length ps ≡ length ns → n ≡ length M → n < places → rowsOf ns ps ≡ tableOf places M
-    → length ps′ ≡ n → length ns′ ≡ n → rowsOf ns′ ps′ ≡ sortRows (rowsOf (take n ns) (take n ps))
-    → rowsOf (set (ns′ ++ drop n ns) n top) (set (ps′ ++ drop n ps) n p) ≡ tableOf places (sortRows M ++ (rowAt top p ∷ []))
-serve-end M ns ps ns′ ps′ n places top p e en h table ep en′ sorted =
+pub serve-end : (M : List Row) (ns ps ns′ ps′ : List ℕ) (after : List Row) (n places top p : ℕ) → length ps ≡ length ns → n ≡ length M → n < places
+    → rowsOf ns ps ≡ tableOf places M → length ps′ ≡ n → length ns′ ≡ n → rowsOf ns′ ps′ ≡ sortRows (rowsOf (take n ns) (take n ps))
+    → after ≡ set (rowsOf (ns′ ++ drop n ns) (ps′ ++ drop n ps)) n (rowAt top p) → after ≡ tableOf places (sortRows M ++ (rowAt top p ∷ []))
+serve-end M ns ps ns′ ps′ after n places top p e en h table ep en′ sorted put =
     let front : rowsOf (take n ns) (take n ps) ≡ M = rows-take ns ps n ∙ rw table (take-at M _ n (sym en)) in
     let back : rowsOf (drop n ns) (drop n ps) ≡ replicate (places - length M) unused = rows-drop ns ps n e ∙ rw table (drop-at M _ n (sym en)) in
     let more : places - length M ≡ suc (places - (n + 1)) = omega arith in
     let m : length (sortRows M) ≡ n = length-sort rowBefore M ∙ sym en in
     let left : length (sortRows M ++ (rowAt top p ∷ [])) ≡ n + 1 = rw (length-append (sortRows M) (rowAt top p ∷ []), m) in
-    rw (rows-set (ns′ ++ drop n ns) (ps′ ++ drop n ps) n top p, rows-append ns′ (drop n ns) ps′ (drop n ps) (ep ∙ sym en′), sorted, front, back, more, left)
+    rw (put, rows-append ns′ (drop n ns) ps′ (drop n ps) (ep ∙ sym en′), sorted, front, back, more, left)
     (set-at (sortRows M) unused (replicate (places - (n + 1)) unused) (rowAt top p) n m
     ∙ sym (append-assoc (sortRows M) (rowAt top p ∷ []) (replicate (places - (n + 1)) unused)))
 
 -- the length of what a step makes
-pub served-length : (c : Change) (s : ℕ) (rows : List Row) → length (served c s rows) ≡ length (moved c rows) + 1
-served-length c s rows = length-append (sortRows (moved c rows)) _ ∙ rw (length-sort rowBefore (moved c rows))
+pub served-length : (c : Change) (top : ℕ) (rows : List Row) → length (served c top rows) ≡ length (moved c rows) + 1
+served-length c top rows = length-append (sortRows (moved c rows)) _ ∙ rw (length-sort rowBefore (moved c rows))
 
 -- rows of L0 do not count
 pub used-others : (rule : LayerRule) (k a i p : ℕ) (rows : List Row) → othersAfter rule k a i p (usedRows rows) ≡ othersAfter rule k a i p rows
@@ -244,29 +246,33 @@ pub used-rule : (k s p : ℕ) (rows : List Row) → ruleIn k s p (usedRows rows)
 used-rule k s p rows = rw (numberIn-aboveZero rows p)
 
 -- what a step answers
-module _ (c : Change) (k a s p places n : ℕ) (rows : List Row) (ek : c .k ≡ k) (ea : c .a ≡ a) (ep : c .page ≡ p) (ei : c .i ≡ numberIn rows p)
-    (er : ruleOf (c .rule) ≡ layerRule k (c .i) s) (en : n ≡ length (moved c rows)) where
-  after-length : length (rowsAfter k a s p rows) ≡ n + 1
-  after-length = rw (← served-is c k a s p rows ek ea ep ei er) (served-length c s rows ∙ rw (sym en))
+module _ (c : Change) (applied : RuleApplied) (k a i s p places n : ℕ) (ns ps : List ℕ) (e : length ps ≡ length ns) (small : (j : ℕ) → getD ns j 0 ≤ 4294967295)
+    (ec : c ≡ changeFor (ruleOf applied) k a i p) (ei : i ≡ numberIn (rowsOf ns ps) p) (er : ruleOf applied ≡ layerRule k i s) (en : n ≡ length (moved c (rowsOf ns ps))) where
+  after-is : served c (topAfter (ruleOf applied) k a s) (rowsOf ns ps) ≡ rowsAfter k a s p (rowsOf ns ps)
+  after-is =
+      served-is c (ruleOf applied) k a i s p (rowsOf ns ps) (λ j. rw (rows-get ns ps j e) (small j)) ec ei er
 
-  rule-is : ruleOf (c .rule) ≡ ruleIn k s p rows
+  after-length : length (rowsAfter k a s p (rowsOf ns ps)) ≡ n + 1
+  after-length = rw (← after-is) (served-length c (topAfter (ruleOf applied) k a s) (rowsOf ns ps) ∙ rw (sym en))
+
+  rule-is : ruleOf applied ≡ ruleIn k s p (rowsOf ns ps)
   rule-is = er ∙ rw ei
 
-  pub step-full : places ≤ n → SteppedTo k a s p places rows rows (record { full = true; rule = c .rule; s = 0; used = 0 })
+  pub step-full : places ≤ n → SteppedTo k a s p places (rowsOf ns ps) (rowsOf ns ps) (record { full = true; rule = applied; s = 0; used = 0 })
   step-full h = record {
     full-told = rw after-length (sym (lt-ltb places (n + 1) (omega arith)));
     rule-told = rule-is;
     top-told = refl;
     rows-told = refl;
-    used-told = λ e. clash true refl e;
+    used-told = λ f. clash true refl f;
   }
 
-  pub step-served : (top : ℕ) (after : List Row) → n < places → top ≡ topAfter (ruleOf (c .rule)) (c .k) (c .a) s → after ≡ tableOf places (served c s rows)
-      → SteppedTo k a s p places rows after (record { full = false; rule = c .rule; s = top; used = n + 1 })
-  step-served top after h et told = record {
+  pub step-served : (top : ℕ) (after : List Row) → n < places → top ≡ topAfter (ruleOf applied) k a s → after ≡ tableOf places (served c top (rowsOf ns ps))
+      → SteppedTo k a s p places (rowsOf ns ps) after (record { full = false; rule = applied; s = top; used = n + 1 })
+  step-served top after h et told = let same : served c top (rowsOf ns ps) ≡ rowsAfter k a s p (rowsOf ns ps) = rw et after-is in record {
     full-told = rw after-length (sym (le-ltb places (n + 1) (omega arith)));
     rule-told = rule-is;
-    top-told = et ∙ rw (rule-is, ek, ea);
-    rows-told = told ∙ rw (served-is c k a s p rows ek ea ep ei er);
+    top-told = et ∙ rw rule-is;
+    rows-told = told ∙ ap (tableOf places) same;
     used-told = λ _. sym after-length;
   }

@@ -1,5 +1,5 @@
--- What the inner functions of src/table.rt do to the rows: the definitions of the model, in the steps in which the code takes them.
-use Prim.Native.Nat.{ℕ, _≤_}
+-- What the inner functions of src/lib.rt do to the rows: the definitions of the model, in the steps in which the code takes them.
+use Prim.Native.Nat.{ℕ, _-_, _≤_, min}
 use mathlib.Core.Bool.{false}
 use mathlib.Core.List.{List, [], _∷_, _++_, map}
 use mathlib.Core.Path.{_≡_}
@@ -8,7 +8,7 @@ use lib.ListN.{length}
 use Rattle.lists.specs.Choice.{pick}
 use Rattle.lists.specs.Pages.{filter}
 use Rattle.lists.specs.Sorting.{Row, sortRows}
-use Rattle.paging.specs.Layers.{LayerRule, append, join, lift, renumbered, topAfter}
+use Rattle.paging.specs.Layers.{LayerRule, append, join, lift, topAfter}
 use Rattle.paging.specs.Refusals.{SizesRight}
 use Rattle.paging.specs.Rows.{rowAt, tableOf}
 use Rattle.paging.specs.Table.{aboveZero, ruleIn, rowsAfter}
@@ -28,10 +28,33 @@ pub record Sound (k a s : ℕ) : Type 0 where
   pub sizes : SizesRight k a
   pub s-high : s ≤ k
 
+-- what each rule does to numbers, of which none is above 4,294,967,295
+abbrev pub floorFor : LayerRule → (k a : ℕ) → ℕ
+floorFor append k a = 4294967295
+floorFor join k a = k - a
+floorFor lift k a = 4294967295
+
+abbrev pub aboveFor : LayerRule → (i : ℕ) → ℕ
+aboveFor append i = 4294967295
+aboveFor join i = 4294967295
+aboveFor lift i = i - 1
+
+abbrev pub changeFor : LayerRule → (k a i p : ℕ) → Change
+changeFor rule k a i p = record { floor = floorFor rule k a; above = aboveFor rule i; page = p }
+
+-- a number after a change
+abbrev pub changed : Change → ℕ → ℕ
+changed change n =
+    let low = min n (change .floor) in
+    pick (ltb (change .above) low) (low - 1) low
+
+-- the numbers that become 0
+pub record LostUpTo (change : Change) (most : ℕ) : Type 0 where
+  pub told : (n : ℕ) → n ≤ 4294967295 → ltb most n ≡ ltb 0 (changed change n)
+
 -- a row's number after a request; the requested page's rows go
 abbrev pub numberAfter : Change → (number page : ℕ) → ℕ
-numberAfter change number page =
-    pick (eqb page (change .page)) 0 (renumbered (ruleOf (change .rule)) (change .k) (change .a) (change .i) number)
+numberAfter change number page = pick (eqb page (change .page)) 0 (changed change number)
 
 abbrev pub rowMoved : Change → Row → Row
 rowMoved change row = record { number = numberAfter change (row .number) (row .page); page = row .page }
@@ -41,9 +64,8 @@ abbrev pub moved : Change → List Row → List Row
 moved change rows = filter aboveZero (map (rowMoved change) rows)
 
 -- the rows after the request: those that stay in order, and the requested page last
-abbrev pub served : Change → (s : ℕ) → List Row → List Row
-served change s rows =
-    sortRows (moved change rows) ++ (rowAt (topAfter (ruleOf (change .rule)) (change .k) (change .a) s) (change .page) ∷ [])
+abbrev pub served : Change → (top : ℕ) → List Row → List Row
+served change top rows = sortRows (moved change rows) ++ (rowAt top (change .page) ∷ [])
 
 -- what a step answers, and the rows that it leaves. A table with too few places is left as it was
 pub record SteppedTo (k a s p places : ℕ) (before after : List Row) (r : Stepped) : Type 0 where

@@ -1,7 +1,7 @@
 use native.Mathlib.Omega.{arith}
 use mathlib.Core.Path.{sym, _∙_}
 use borrow.Author.Needs.{needs}
-use Rattle.table.proofs.LiftLaws.{number-none, number-once}
+use Rattle.table.proofs.Numbers.{number-none, number-once}
 use Rattle.table.proofs.number_in.Statement.{statement}
 use Rattle.table.proofs.number_in.Tie as tie
 
