@@ -3,10 +3,11 @@ use Prim.Native.Nat.{_≤_, _-_}
 use native.Mathlib.Omega.{arith}
 use mathlib.Core.Path.{_≡_, refl}
 use lib.ListN.{length, length-set}
-use Rattle.lists.proofs.Leaves.{over, over-none, over-stored, put-done}
+use Rattle.lists.proofs.Leaves.{over-none, over-stored, put-done}
 use borrow.Author.Needs.{needs}
 use Rattle.exports.proofs.store.put.Statement.{statement}
 use Rattle.exports.proofs.store.put.Tie as tie
+use Rattle.lists.specs.Places.{over}
 
 abbrev Inv-loop : tie.InvT-loop
 Inv-loop fields out₀ n i₀ out i = (i ≤ n) × ((length out ≡ length out₀) × (out ≡ over fields out₀ i))

@@ -3,10 +3,11 @@ use Prim.Native.Nat.{_≤_, _-_}
 use native.Mathlib.Omega.{arith}
 use mathlib.Core.Path.{_≡_, refl}
 use lib.ListN.{length, length-set}
-use Rattle.lists.proofs.Leaves.{over, over-none, over-stored, put-done}
+use Rattle.lists.proofs.Leaves.{over-none, over-stored, put-done}
 use borrow.Author.Needs.{needs}
 use Rattle.exports.proofs.store.put_bytes.Statement.{statement}
 use Rattle.exports.proofs.store.put_bytes.Tie as tie
+use Rattle.lists.specs.Places.{over}
 
 abbrev Inv-loop : tie.InvT-loop
 Inv-loop from to₀ n i₀ to i = (i ≤ n) × ((length to ≡ length to₀) × (to ≡ over from to₀ i))
