@@ -60,7 +60,8 @@ same-length-2 c =
 
 returns : tie.Need-returns
 returns c =
-    let args = c .before .before .before .before .before .before .before .before .before .before .before .before .before .before .before .before .before .before .before .before .before .before .before .args in
+    let args = c .before .before .before .before .before .before .before .before .before .before .before .before .before .before .before .before .before .before
+    .before .before .before .before .before .args in
     let renumber = c .before .before .before .before .before .before .before .before .before .before .before .before .before .before .before .before .before .before .renumber in
     let sort = c .before .before .before .before .before .before .before .before .before .before .before .sort in
     let put-row = c .before .before .before .before .put-row in
