@@ -12,51 +12,39 @@ Inv-loop trace cache₀ evicted₀ run₀ count₀ i₀ cache evicted run count 
 abbrev μ-loop : tie.MeasureT-loop
 μ-loop trace cache₀ evicted₀ run₀ count₀ i₀ cache evicted run count i = length trace - i
 
--- src/traces.rt:40:9
 empty-requires : tie.Need-empty-requires Inv-loop μ-loop
 empty-requires c κs = search needs
 
--- src/traces.rt:43:5
 loop-holds : tie.Need-loop-holds Inv-loop μ-loop
 loop-holds c = search needs
 
--- src/traces.rt:44:62
 mul-request : tie.Need-mul-request Inv-loop μ-loop
 mul-request c = search needs
 
--- src/traces.rt:44:62
 shared-slice-read-request : tie.Need-shared-slice-read-request Inv-loop μ-loop
 shared-slice-read-request c = search needs
 
--- src/traces.rt:44:13
 request-requires : tie.Need-request-requires Inv-loop μ-loop
 request-requires c κs = search needs
 
--- src/traces.rt:45:9
 figure-requires : tie.Need-figure-requires Inv-loop μ-loop
 figure-requires c κs = search needs
 
--- src/traces.rt:48:9
 add-i : tie.Need-add-i Inv-loop μ-loop
 add-i c = search needs
 
--- src/traces.rt:43:5
 loop-less : tie.Need-loop-less Inv-loop μ-loop
 loop-less c = search needs
 
--- src/traces.rt:43:5
 loop-again : tie.Need-loop-again Inv-loop μ-loop
 loop-again c = search needs
 
--- src/traces.rt:39:1
 same-length : tie.Need-same-length Inv-loop μ-loop
 same-length c = search needs
 
--- src/traces.rt:39:1
 same-length-2 : tie.Need-same-length-2 Inv-loop μ-loop
 same-length-2 c = search needs
 
--- src/traces.rt:39:1
 returns : tie.Need-returns Inv-loop μ-loop
 returns c = search needs
 

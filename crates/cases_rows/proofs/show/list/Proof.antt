@@ -12,35 +12,27 @@ Inv-loop numbers i₀ i = i ≤ length numbers
 abbrev μ-loop : tie.MeasureT-loop
 μ-loop numbers i₀ i = length numbers - i
 
--- src/show.rt:31:5
 loop-holds : tie.Need-loop-holds Inv-loop μ-loop
 loop-holds c = search needs
 
--- src/show.rt:32:16
 mul-figure : tie.Need-mul-figure Inv-loop μ-loop
 mul-figure c = search needs
 
--- src/show.rt:32:16
 shared-slice-read-figure : tie.Need-shared-slice-read-figure Inv-loop μ-loop
 shared-slice-read-figure c = search needs
 
--- src/show.rt:32:9
 figure-requires : tie.Need-figure-requires Inv-loop μ-loop
 figure-requires c κs = search needs
 
--- src/show.rt:33:9
 add-i : tie.Need-add-i Inv-loop μ-loop
 add-i c = search needs
 
--- src/show.rt:31:5
 loop-less : tie.Need-loop-less Inv-loop μ-loop
 loop-less c = search needs
 
--- src/show.rt:31:5
 loop-again : tie.Need-loop-again Inv-loop μ-loop
 loop-again c = search needs
 
--- src/show.rt:29:1
 returns : tie.Need-returns Inv-loop μ-loop
 returns c = search needs
 

@@ -4,11 +4,9 @@ use borrow.Author.Needs.{needs}
 use Rattle.cases_rows.proofs.text.within.Statement.{statement}
 use Rattle.cases_rows.proofs.text.within.Tie as tie
 
--- src/text.rt:181:9
 returns : tie.Need-returns
 returns c = counts _ _ (omega arith)
 
--- src/text.rt:177:1
 returns-2 : tie.Need-returns-2
 returns-2 c = counts _ _ (omega arith)
 
