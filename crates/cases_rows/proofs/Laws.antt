@@ -1,7 +1,7 @@
 -- A number of places that a list has counts its first places.
 use Prim.Native.Nat.{ℕ, _≤_}
-use mathlib.Core.Path.{sym}
 use mathlib.Core.List.{List}
+use mathlib.Core.Path.{sym}
 use lib.ListN.{length}
 use lib.Seq.{length-take-le}
 use Rattle.io.specs.Counts.{Counts}

@@ -1,28 +1,28 @@
 -- The number that the caller receives (document 01: "the cost, or the refusal number made negative"): a refusal's is from 1 to 7, so a number at
 -- or above zero is a cost, and one below zero a refusal.
-use Prim.Native.Nat.{ℕ, zero, suc, _+_, _-_, _≤_, _<_}
+use Prim.Native.Nat.{ℕ, zero, suc, _+_, _-_, _≤_}
 use native.Mathlib.Omega.{arith}
 use mathlib.Core.Bool.{Bool, true, false, not}
 use mathlib.Core.List.{List, [], _∷_}
 use mathlib.Core.Path.{_≡_, refl, ap, subst}
 use lib.Dec.{eqb, leb, ltb}
-use lib.IntN.{ℤ, pos, negsuc, negℤ}
+use lib.IntN.{ℤ, pos, negsuc}
 use lib.ListN.{length}
-use borrow.Author.Tests.{eqb-true, eqb-false}
+use borrow.Author.Tests.{eqb-false}
 use Rattle.lists.specs.Choice.{pick, _and_, _or_}
 use Rattle.lists.specs.Pages.{mem}
 use Rattle.lists.proofs.Choice.{by-test}
 use Rattle.paging.specs.Refusals.{longestTrace}
 use Rattle.paging.specs.Schedule.{Entry, ev, pf, timeOf, heldInTurn}
 use Rattle.reading.specs.Files.{File, requestsFrom, entriesFrom}
-use Rattle.reading.specs.Reading as reading
 use Rattle.reading.specs.Reading.{readTrace, readSchedule}
+use Rattle.reading.specs.Reading as reading
 use Rattle.reading.proofs.Facts.{TraceFacts, ScheduleFacts, trace-facts, schedule-facts, trace-says, schedule-says}
 use Rattle.reading.proofs.Numbers.{Low, trace-low, schedule-low, requests-low, entries-low}
 use Rattle.judging.specs.Answer.{Answer, cost, refused, answerNumber}
 use Rattle.judging.specs.Files.{behindKa, behindRequests, scheduleJudged, judged}
-use Rattle.judging.specs.Judging.{Standing, Step, on, stop, Closed, closed, overfull, closing, opened, acted, andThen, arrived, stepped}
-use Rattle.judging.specs.Judging.{finished, ended, answered, judgedFrom, standsFirst}
+use Rattle.judging.specs.Judging.{Standing, Step, on, stop, Closed, closed, overfull, closing, opened, acted, andThen, arrived, stepped, finished, ended, answered, judgedFrom}
+use Rattle.judging.specs.Judging.{standsFirst}
 
 -- a refusal's number is one of the judge's
 abbrev Numbered : ℕ → Type 0

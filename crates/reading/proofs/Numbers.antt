@@ -1,20 +1,19 @@
 -- The numbers that a reader refuses with inside a file, and that a whole file's damage has: at most 6.
-use Prim.Native.Nat.{ℕ, zero, suc, _+_, _≤_, _<_}
+use Prim.Native.Nat.{ℕ, zero, suc, _≤_}
 use native.Mathlib.Omega.{arith}
 use mathlib.Core.Bool.{Bool, true, false}
 use mathlib.Core.List.{List}
-use mathlib.Core.Path.{_≡_, refl}
 use lib.Dec.{eqb, ltb}
 use lib.ListN.{length, drop}
 use borrow.Author.Tests.{le-ltb}
 use Rattle.lists.specs.Choice.{pick, _or_}
-use Rattle.paging.specs.Refusals.{refuse, sizesRefusal}
-use Rattle.wire.specs.Numbers.{num16, num32}
+use Rattle.paging.specs.Refusals.{sizesRefusal}
+use Rattle.wire.specs.Numbers.{num16}
 use Rattle.records.specs.Bytes.{evLength}
 use Rattle.records.specs.Marks.{Mark, KA, RQ, EV, PF, bad, markOf, markAt, markKA, markRQ, markEV, markPF}
 use Rattle.reading.specs.Files.{File, onward, walk, pagesIn, requestsFrom, entriesIn, entriesFrom}
-use Rattle.reading.specs.Reading.{Answer, refused, ended, sizes, request, bundle, fetch, unless, kaRead, rqRead, countRefused, evRead, pfRead}
-use Rattle.reading.specs.Reading.{entryRead, readTrace, readSchedule}
+use Rattle.reading.specs.Reading.{Answer, refused, ended, sizes, request, bundle, fetch, unless, kaRead, rqRead, countRefused, evRead, pfRead, entryRead, readTrace}
+use Rattle.reading.specs.Reading.{readSchedule}
 use Rattle.reading.proofs.Walk.{Goes, trace-goes, schedule-goes}
 
 -- ---- one answer

@@ -1,6 +1,5 @@
 use mathlib.Core.Path.{refl}
 use borrow.Author.Needs.{needs}
-use Rattle.table.specs.Serving.{ruleOf}
 use Rattle.table.proofs.change_for.Statement.{statement}
 use Rattle.table.proofs.change_for.Tie as tie
 

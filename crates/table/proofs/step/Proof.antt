@@ -1,7 +1,6 @@
 use native.Mathlib.Omega.{arith}
 use lib.ListN.{length}
 use borrow.Author.Needs.{needs}
-use Rattle.table.specs.Serving.{ruleOf}
 use Rattle.table.proofs.Numbers.{lift-has-row}
 use Rattle.table.proofs.Serving.{step-full, step-served}
 use Rattle.table.proofs.step.Statement.{statement}

@@ -1,9 +1,9 @@
-use Rattle.cases_rows.proofs.Laws.{counts}
-use Prim.Native.Nat.{_≤_, _<_, _-_}
+use Prim.Native.Nat.{_≤_, _-_}
 use native.Mathlib.Omega.{arith}
+use mathlib.Core.Path.{_≡_}
 use lib.ListN.{length, length-set}
-use mathlib.Core.Path.{_≡_, sym}
 use borrow.Author.Needs.{needs}
+use Rattle.cases_rows.proofs.Laws.{counts}
 use Rattle.cases_rows.proofs.text.fill.Statement.{statement}
 use Rattle.cases_rows.proofs.text.fill.Tie as tie
 
@@ -13,35 +13,14 @@ Inv-loop to₀ from times value i₀ left₀ to i left = (i ≤ length to) × (l
 abbrev μ-loop : tie.MeasureT-loop
 μ-loop to₀ from times value i₀ left₀ to i left = length to - i
 
-loop-holds : tie.Need-loop-holds Inv-loop μ-loop
-loop-holds c = search needs
-
-same-length : tie.Need-same-length Inv-loop μ-loop
-same-length c = search needs
-
 returns : tie.Need-returns Inv-loop μ-loop
 returns c = counts _ _ (omega arith)
-
-mul-to : tie.Need-mul-to Inv-loop μ-loop
-mul-to c = search needs
-
-slice-write-to : tie.Need-slice-write-to Inv-loop μ-loop
-slice-write-to c = search needs
-
-add-i : tie.Need-add-i Inv-loop μ-loop
-add-i c = search needs
-
-sub-left : tie.Need-sub-left Inv-loop μ-loop
-sub-left c = search needs
 
 loop-less : tie.Need-loop-less Inv-loop μ-loop
 loop-less c = simp length-set (omega arith)
 
 loop-again : tie.Need-loop-again Inv-loop μ-loop
 loop-again c = simp length-set (omega arith)
-
-same-length-2 : tie.Need-same-length-2 Inv-loop μ-loop
-same-length-2 c = search needs
 
 returns-2 : tie.Need-returns-2 Inv-loop μ-loop
 returns-2 c = counts _ _ (omega arith)
@@ -52,14 +31,14 @@ fill-spec =
     (tie.spec
     Inv-loop
     μ-loop
-    loop-holds
-    same-length
+    (λ c. search needs)
+    (λ c. search needs)
     returns
-    mul-to
-    slice-write-to
-    add-i
-    sub-left
+    (λ c. search needs)
+    (λ c. search needs)
+    (λ c. search needs)
+    (λ c. search needs)
     loop-less
     loop-again
-    same-length-2
+    (λ c. search needs)
     returns-2)

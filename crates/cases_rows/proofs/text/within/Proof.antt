@@ -1,6 +1,5 @@
 use native.Mathlib.Omega.{arith}
 use Rattle.cases_rows.proofs.Laws.{counts}
-use borrow.Author.Needs.{needs}
 use Rattle.cases_rows.proofs.text.within.Statement.{statement}
 use Rattle.cases_rows.proofs.text.within.Tie as tie
 
