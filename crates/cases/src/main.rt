@@ -1,18 +1,12 @@
-// Document 01's "other cases", and the places where its text is clear and code goes wrong easily: each a row of the file `stdin`, with the
-// answer in the file `stdout`, which was worked out by hand.
-use cases_calls::requests;
-use cases_calls::traces;
-use cases_files::files;
+// Document 01's "other cases", and the places where its text is clear and code goes wrong easily: each a row of the file `stdin`, whose head
+// tells how rows are written. Their answers, in the file `stdout`, were worked out by hand.
 use cases_rows::row;
 use cases_rows::row::Numbers;
 use cases_rows::row::Row;
 use cases_rows::show;
 use cases_rows::text;
 
-const FIRST: u16 = b'f' as u16 + 256 * b'i' as u16;
-
-const SECOND: u16 = b's' as u16 + 256 * b'e' as u16;
-
+// The longest list is a trace with one request too many.
 fn main() {
     let mut input = [0u8; 24576];
     let n = io::read_full(0, &mut input);
@@ -54,19 +48,8 @@ fn lend(row: Row, first: &mut [u32], second: &mut [u32], third: &mut [u32]) {
 }
 
 fn answer(call: u16, n: Numbers, first: &mut [u32], second: &mut [u32], third: &mut [u32]) {
-    match call {
-        traces::MIN | traces::LRU | traces::LAYERS | traces::STEPS => traces::answer(
-            call,
-            n,
-            first,
-            second,
-            third,
-        ),
-        requests::CACHE | requests::TABLE | requests::REVEALED | requests::POSSIBLE => {
-            requests::answer(call, n, first, second, third)
-        }
-        FIRST => show::list(first),
-        SECOND => show::list(second),
-        _ => files::answer(call, n, first, second),
+    if cases_calls::answer(call, n, first, second, third) {
+        return;
     }
+    cases_files::answer(call, n, first, second);
 }

@@ -3,27 +3,11 @@ use cases_rows::row::Numbers;
 use cases_rows::show;
 use layers::LayersRun;
 use layers::PossibleAnswer;
+use lru::Reply;
 use lru::Run;
 
-pub const CACHE: u16 = b'c' as u16 + 256 * b'a' as u16;
-
-pub const TABLE: u16 = b't' as u16 + 256 * b'a' as u16;
-
-pub const REVEALED: u16 = b'r' as u16 + 256 * b'e' as u16;
-
-pub const POSSIBLE: u16 = b'p' as u16 + 256 * b'o' as u16;
-
-pub fn answer(call: u16, n: Numbers, first: &mut [u32], second: &mut [u32], set: &[u32]) {
-    match call {
-        CACHE => cache(n, first, second),
-        TABLE => table(n, first, second),
-        REVEALED => revealed(n, first, second),
-        _ => possible(n, first, second, set),
-    }
-}
-
 // An LRU request: k, a, requests, loads, evictions, count, page; the cache and the evicted list.
-fn cache(n: Numbers, cache: &mut [u32], evicted: &mut [u32]) {
+pub(crate) fn cache(n: Numbers, cache: &mut [u32], evicted: &mut [u32]) {
     let run = Run {
         k: n.0,
         a: n.1,
@@ -32,6 +16,10 @@ fn cache(n: Numbers, cache: &mut [u32], evicted: &mut [u32]) {
         evictions: n.4,
     };
     let reply = lru::request(run, n.5, cache, evicted, n.6);
+    answered(reply);
+}
+
+pub(crate) fn answered(reply: Reply) {
     show::answer(reply.refusal, &[reply.answer; 1]);
 }
 
@@ -47,18 +35,18 @@ fn record(n: Numbers) -> LayersRun {
 }
 
 // A layers request: the record and the page; the table's pages and numbers. The answer is s after it.
-fn table(n: Numbers, pages: &mut [u32], numbers: &mut [u32]) {
+pub(crate) fn table(n: Numbers, pages: &mut [u32], numbers: &mut [u32]) {
     let reply = layers::request(record(n), pages, numbers, n.5);
     let after = reply.run;
     show::answer(reply.refusal, &[after.s; 1]);
 }
 
-fn revealed(n: Numbers, pages: &[u32], numbers: &[u32]) {
+pub(crate) fn revealed(n: Numbers, pages: &[u32], numbers: &[u32]) {
     let reply = layers::revealed(record(n), pages, numbers);
     show::answer(reply.refusal, &[reply.count; 1]);
 }
 
-fn possible(n: Numbers, pages: &[u32], numbers: &[u32], set: &[u32]) {
+pub(crate) fn possible(n: Numbers, pages: &[u32], numbers: &[u32], set: &[u32]) {
     let answer = layers::possible(record(n), pages, numbers, set);
     match answer {
         PossibleAnswer::Yes => show::text(b" possible"),

@@ -1,8 +1,11 @@
 // Lists of numbers as bytes.
 ghost use Rattle.io.specs.Counts.{Counts};
 
+// The most bytes of a file here.
+pub(crate) const ROOM: usize = 64;
+
 // The numbers of a list as bytes, the lower 8 bits of each, as many as there is room for; their count.
-pub fn to_bytes(list: &[u32], bytes: &mut [u8]) -> usize
+pub(crate) fn of_list(list: &[u32], bytes: &mut [u8]) -> usize
     ensures { λ r. ⌜ Counts r (now (bytes .exit)) ⌝ }
 {
     let mut i = 0;
@@ -17,9 +20,9 @@ pub fn to_bytes(list: &[u32], bytes: &mut [u8]) -> usize
 }
 
 // Bytes as the first numbers of a list, as many as there is room for.
-pub fn to_numbers(bytes: &[u8; 64], list: &mut [u32]) {
+pub(crate) fn into_list(bytes: &[u8; ROOM], list: &mut [u32]) {
     let mut i = 0;
-    while i < 64 {
+    while i < ROOM {
         if i == list.len() {
             return;
         }
@@ -33,6 +36,6 @@ fn wide(b: u8) -> u32 {
 }
 
 // A number as an offset.
-pub fn offset(n: u32) -> usize {
+pub(crate) fn offset(n: u32) -> usize {
     n as usize
 }

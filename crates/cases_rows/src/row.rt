@@ -15,7 +15,7 @@ pub struct Numbers(
     pub u32,
 );
 
-// The call, as the first two letters of its name in a 16-bit number, the first in the lower byte; 0 where the line is no row. Its numbers, and
+// The call, as the first two letters of its name in a 16-bit number, the first in the lower byte, and 0 for a remark; the call's numbers; and
 // how many places each list has.
 pub struct Row {
     pub call: u16,
@@ -36,6 +36,17 @@ impl Row {
             third: 0,
         }
     }
+
+    // A remark: the lists stay.
+    fn without_call(self) -> Row {
+        Row {
+            call: 0,
+            numbers: Numbers(0, 0, 0, 0, 0, 0, 0),
+            first: self.first,
+            second: self.second,
+            third: self.third,
+        }
+    }
 }
 
 // Prints the label of the row that a line has, and reads the rest. A line with no colon is a remark.
@@ -48,17 +59,25 @@ pub fn read(
 ) -> Row {
     let colon = text::find(line, 0, b':');
     if colon == line.len() {
-        return Row {
-            call: 0,
-            numbers: Numbers(0, 0, 0, 0, 0, 0, 0),
-            first: before.first,
-            second: before.second,
-            third: before.third,
-        };
+        return before.without_call();
     }
-    let call = call_at(line, colon);
     show::text(&line[..colon]);
     show::text(b":");
+    behind(line, colon, before, first, second, third)
+}
+
+// What stands behind the colon.
+fn behind(
+    line: &[u8],
+    colon: usize,
+    before: Row,
+    first: &mut [u32],
+    second: &mut [u32],
+    third: &mut [u32],
+) -> Row
+    requires { ⌜ colon ≤ length (now line) ⌝ }
+{
+    let call = call_at(line, colon);
     let mut list = [0u32; 7];
     let given = text::list(line, colon, 0, &mut list);
     let numbers = in_order(&list);

@@ -11,6 +11,7 @@ pub fn figure(n: u32) {
     io::print_decimal(OUT, n as u64);
 }
 
+// A space and a length or an offset.
 pub fn length(n: usize) {
     io::write_all(OUT, b" ");
     io::print_decimal(OUT, n as u64);

@@ -1,4 +1,4 @@
-// Labels, numbers and lists of a row.
+// The numbers and lists of a row.
 ghost use Prim.Native.Nat.{_≤_, _<_};
 ghost use lib.ListN.{length};
 ghost use Rattle.io.specs.Counts.{Counts};
@@ -22,13 +22,13 @@ pub fn find(text: &[u8], from: usize, byte: u8) -> usize
 fn digit(b: u8) -> u64
     ensures { λ r. ⌜ r ≤ 10 ⌝ }
 {
-    if b < 48 {
+    if b < b'0' {
         return 10;
     }
-    if b > 57 {
+    if b > b'9' {
         return 10;
     }
-    (b - 48) as u64
+    (b - b'0') as u64
 }
 
 struct Value {
@@ -54,7 +54,7 @@ fn number(line: &[u8], from: usize, before: u64) -> Value
     Value { value, next: i }
 }
 
-// A number that a list has some times, none for a byte that says nothing; or the list's last byte.
+// A number that comes some times, never for a byte that says nothing; or the end of a list.
 struct Token {
     last: bool,
     times: u64,
@@ -73,7 +73,7 @@ fn token_at(line: &[u8], from: usize) -> Token
     if d < 10 {
         return numbers(line, number(line, next, d));
     }
-    if b == 59 {
+    if b == b';' {
         return Token {
             last: true,
             times: 0,
@@ -95,10 +95,10 @@ fn wide(b: u8) -> u32 {
 
 // 1 for a capital letter, 0 for any other byte.
 fn capital(b: u8) -> u64 {
-    if b < 65 {
+    if b < b'A' {
         return 0;
     }
-    if b > 90 {
+    if b > b'Z' {
         return 0;
     }
     1
@@ -111,7 +111,7 @@ fn numbers(line: &[u8], first: Value) -> Token
 {
     let at = first.next;
     if at < line.len() {
-        if line[at] == 42 {
+        if line[at] == b'*' {
             let second = number(line, at + 1, 0);
             return Token {
                 last: false,
@@ -132,7 +132,7 @@ fn numbers(line: &[u8], first: Value) -> Token
 // Puts a number into a list some times, as often as there is room; the place behind them.
 fn fill(to: &mut [u32], from: usize, times: u64, value: u32) -> usize
     requires { ⌜ from ≤ length (now to) ⌝ }
-    ensures { λ r. ⌜ Counts r (now (to .exit)) ⌝ }
+    ensures { λ r. ⌜ r ≤ length (now (to .exit)) ⌝ }
 {
     let mut i = from;
     let mut left = times;

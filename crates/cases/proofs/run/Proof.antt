@@ -7,7 +7,10 @@ use Rattle.cases.proofs.run.Tie as tie
 
 abbrev Inv-loop : tie.InvT-loop
 Inv-loop input first₀ second₀ third₀ row₀ at₀ first second third row at =
-    (at ≤ length input + 1) × (length first ≡ length first₀) × (length second ≡ length second₀) × (length third ≡ length third₀)
+    (at ≤ length input + 1)
+    × (length first ≡ length first₀)
+    × (length second ≡ length second₀)
+    × (length third ≡ length third₀)
 
 abbrev μ-loop : tie.MeasureT-loop
 μ-loop input first₀ second₀ third₀ row₀ at₀ first second third row at = length input + 1 - at

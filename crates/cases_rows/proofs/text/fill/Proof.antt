@@ -3,7 +3,6 @@ use native.Mathlib.Omega.{arith}
 use mathlib.Core.Path.{_≡_}
 use lib.ListN.{length, length-set}
 use borrow.Author.Needs.{needs}
-use Rattle.cases_rows.proofs.Laws.{counts}
 use Rattle.cases_rows.proofs.text.fill.Statement.{statement}
 use Rattle.cases_rows.proofs.text.fill.Tie as tie
 
@@ -13,18 +12,6 @@ Inv-loop to₀ from times value i₀ left₀ to i left = (i ≤ length to) × (l
 abbrev μ-loop : tie.MeasureT-loop
 μ-loop to₀ from times value i₀ left₀ to i left = length to - i
 
-returns : tie.Need-returns Inv-loop μ-loop
-returns c = counts _ _ (omega arith)
-
-loop-less : tie.Need-loop-less Inv-loop μ-loop
-loop-less c = simp length-set (omega arith)
-
-loop-again : tie.Need-loop-again Inv-loop μ-loop
-loop-again c = simp length-set (omega arith)
-
-returns-2 : tie.Need-returns-2 Inv-loop μ-loop
-returns-2 c = counts _ _ (omega arith)
-
 pub fill-spec : {M : Type 1} → statement M
 fill-spec =
     tie.close
@@ -33,12 +20,12 @@ fill-spec =
     μ-loop
     (λ c. search needs)
     (λ c. search needs)
-    returns
     (λ c. search needs)
     (λ c. search needs)
     (λ c. search needs)
     (λ c. search needs)
-    loop-less
-    loop-again
     (λ c. search needs)
-    returns-2)
+    (λ c. simp length-set (omega arith))
+    (λ c. simp length-set (omega arith))
+    (λ c. search needs)
+    (λ c. search needs))

@@ -12,12 +12,6 @@ Inv-loop text from byte i₀ i = (from ≤ i) × (i ≤ length text)
 abbrev μ-loop : tie.MeasureT-loop
 μ-loop text from byte i₀ i = length text - i
 
-returns : tie.Need-returns Inv-loop μ-loop
-returns c = (omega arith, counts _ _ (omega arith))
-
-returns-2 : tie.Need-returns-2 Inv-loop μ-loop
-returns-2 c = (omega arith, counts _ _ (omega arith))
-
 pub find-spec : {M : Type 1} → statement M
 find-spec =
     tie.close
@@ -26,8 +20,8 @@ find-spec =
     μ-loop
     (λ c. search needs)
     (λ c. search needs)
-    returns
+    (λ c. (omega arith, counts _ _ (omega arith)))
     (λ c. search needs)
     (λ c. search needs)
     (λ c. search needs)
-    returns-2)
+    (λ c. (omega arith, counts _ _ (omega arith))))

@@ -3,11 +3,5 @@ use Rattle.cases_rows.proofs.Laws.{counts}
 use Rattle.cases_rows.proofs.text.within.Statement.{statement}
 use Rattle.cases_rows.proofs.text.within.Tie as tie
 
-returns : tie.Need-returns
-returns c = counts _ _ (omega arith)
-
-returns-2 : tie.Need-returns-2
-returns-2 c = counts _ _ (omega arith)
-
 pub within-spec : {M : Type 1} → statement M
-within-spec = tie.close (tie.spec returns returns-2)
+within-spec = tie.close (tie.spec (λ c. counts _ _ (omega arith)) (λ c. counts _ _ (omega arith)))

@@ -3,8 +3,8 @@ use native.Mathlib.Omega.{arith}
 use mathlib.Core.Path.{_≡_}
 use lib.ListN.{length, length-set}
 use borrow.Author.Needs.{needs}
-use Rattle.cases_files.proofs.bytes.to_numbers.Statement.{statement}
-use Rattle.cases_files.proofs.bytes.to_numbers.Tie as tie
+use Rattle.cases_files.proofs.bytes.into_list.Statement.{statement}
+use Rattle.cases_files.proofs.bytes.into_list.Tie as tie
 
 abbrev Inv-loop : tie.InvT-loop
 Inv-loop bytes list₀ i₀ list i = (i ≤ 64) × (i ≤ length list) × (length list ≡ length list₀)
@@ -12,14 +12,8 @@ Inv-loop bytes list₀ i₀ list i = (i ≤ 64) × (i ≤ length list) × (lengt
 abbrev μ-loop : tie.MeasureT-loop
 μ-loop bytes list₀ i₀ list i = 64 - i
 
-loop-less : tie.Need-loop-less Inv-loop μ-loop
-loop-less c = omega arith
-
-loop-again : tie.Need-loop-again Inv-loop μ-loop
-loop-again c = simp length-set (omega arith)
-
-pub to-numbers-spec : {M : Type 1} → statement M
-to-numbers-spec =
+pub into-list-spec : {M : Type 1} → statement M
+into-list-spec =
     tie.close
     (tie.spec
     Inv-loop
@@ -32,7 +26,7 @@ to-numbers-spec =
     (λ c. search needs)
     (λ c. search needs)
     (λ c. search needs)
-    loop-less
-    loop-again
+    (λ c. omega arith)
+    (λ c. simp length-set (omega arith))
     (λ c. search needs)
     (λ c. search needs))

@@ -4,8 +4,8 @@ use mathlib.Core.Path.{_≡_}
 use lib.ListN.{length, length-set}
 use borrow.Author.Needs.{needs}
 use Rattle.cases_rows.proofs.Laws.{counts}
-use Rattle.cases_files.proofs.bytes.to_bytes.Statement.{statement}
-use Rattle.cases_files.proofs.bytes.to_bytes.Tie as tie
+use Rattle.cases_files.proofs.bytes.of_list.Statement.{statement}
+use Rattle.cases_files.proofs.bytes.of_list.Tie as tie
 
 abbrev Inv-loop : tie.InvT-loop
 Inv-loop list bytes₀ i₀ bytes i = (i ≤ length list) × (i ≤ length bytes) × (length bytes ≡ length bytes₀)
@@ -13,33 +13,21 @@ Inv-loop list bytes₀ i₀ bytes i = (i ≤ length list) × (i ≤ length bytes
 abbrev μ-loop : tie.MeasureT-loop
 μ-loop list bytes₀ i₀ bytes i = length list - i
 
-returns : tie.Need-returns Inv-loop μ-loop
-returns c = counts _ _ (omega arith)
-
-loop-less : tie.Need-loop-less Inv-loop μ-loop
-loop-less c = omega arith
-
-loop-again : tie.Need-loop-again Inv-loop μ-loop
-loop-again c = simp length-set (omega arith)
-
-returns-2 : tie.Need-returns-2 Inv-loop μ-loop
-returns-2 c = counts _ _ (omega arith)
-
-pub to-bytes-spec : {M : Type 1} → statement M
-to-bytes-spec =
+pub of-list-spec : {M : Type 1} → statement M
+of-list-spec =
     tie.close
     (tie.spec
     Inv-loop
     μ-loop
     (λ c. search needs)
     (λ c. search needs)
-    returns
+    (λ c. counts _ _ (omega arith))
     (λ c. search needs)
     (λ c. search needs)
     (λ c. search needs)
     (λ c. search needs)
     (λ c. search needs)
-    loop-less
-    loop-again
+    (λ c. omega arith)
+    (λ c. simp length-set (omega arith))
     (λ c. search needs)
-    returns-2)
+    (λ c. counts _ _ (omega arith)))
