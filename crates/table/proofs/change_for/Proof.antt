@@ -1,3 +1,4 @@
+use native.Mathlib.Omega.{arith}
 use mathlib.Core.Path.{refl}
 use borrow.Author.Needs.{needs}
 use Rattle.table.proofs.change_for.Statement.{statement}
@@ -6,7 +7,8 @@ use Rattle.table.proofs.change_for.Tie as tie
 sub-t8 : tie.Need-sub-t8
 sub-t8 c =
     let start = c .before .before in
-    start .pre .1 (rw (c .enum-told3 .given .1) refl)
+    let has-row = start .pre .1 (rw (c .enum-told3 .given .1) refl) in
+    omega arith
 
 returns : tie.Need-returns
 returns c = rw (c .enum-told .given .1)

@@ -60,10 +60,10 @@ same-length-2 c =
 
 returns : tie.Need-returns
 returns c =
-    let args = c .before .before .before .before .before .before .before .before .before .before .before .before .before .before .before .before .before .before
-    .before .before .before .before .before .args in
-    let renumber = c .before .before .before .before .before .before .before .before .before .before .before .before .before .before .before .before .before .before .renumber in
-    let sort = c .before .before .before .before .before .before .before .before .before .before .before .sort in
+    let sorted = c .before .before .before .before .before .before .before .before .before .before .before in
+    let sort = sorted .sort in
+    let renumber = sorted .before .before .before .before .before .before .before .renumber in
+    let args = sorted .before .before .before .before .before .before .before .before .before .before .before .before .args in
     let put-row = c .before .before .before .before .put-row in
     let even-pages = renumber .kept .1 .0 in
     let even-numbers = renumber .kept .1 .1 .0 in

@@ -23,8 +23,8 @@ returns c =
     let kept = c .before .kept in
     let known = c .before .before .before .before .before .before .before .before .before .slice-known2 in
     step-full (change-for .result) (rule-for .result) (args .k) (args .a) (number-in .result) (args .s) (args .page) (length (args .pages .now)) (kept .result)
-    (args .numbers .now) (args .pages .now) (start .pre .0) (λ j. let h = known .given j in omega arith) (change-for .ensures) (number-in .ensures)
-    (rule-for .ensures) (kept .ensures) (c .if1 .taken)
+    (args .numbers .now) (args .pages .now) (start .pre .0) (λ j. let h = known .given j in omega arith) (change-for .ensures) (number-in .ensures) (rule-for .ensures)
+    (kept .ensures) (c .if1 .taken)
 
 returns-2 : tie.Need-returns-2
 returns-2 c =
@@ -39,8 +39,8 @@ returns-2 c =
     let top-after = c .before .before .before .before .before .before .before .top-after in
     let serve = c .before .before .before .before .serve in
     step-served (change-for .result) (rule-for .result) (args .k) (args .a) (number-in .result) (args .s) (args .page) (length (args .pages .now)) (kept .result)
-    (args .numbers .now) (args .pages .now) (start .pre .0) (λ j. let h = known .given j in omega arith) (change-for .ensures) (number-in .ensures)
-    (rule-for .ensures) (kept .ensures) _ _ (if1 .left) (top-after .ensures) (serve .ensures)
+    (args .numbers .now) (args .pages .now) (start .pre .0) (λ j. let h = known .given j in omega arith) (change-for .ensures) (number-in .ensures) (rule-for .ensures)
+    (kept .ensures) _ _ (if1 .left) (top-after .ensures) (serve .ensures)
 
 pub step-spec : {M : Type 1} → statement M
 step-spec =
