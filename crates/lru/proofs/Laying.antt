@@ -8,7 +8,8 @@ use lib.ListN.{length, take, drop, set, replicate, length-append, length-drop, l
 use lib.Seq.{take-all, length-take-le, take-at, drop-drop, drop-append-add, drop-set-lt, take-suc-set, take-take}
 use Rattle.lists.specs.Places.{movedToEnd, firstDropped, pasted}
 use Rattle.lists.proofs.Leaves.{length-moved, length-dropped}
-use Rattle.lru.specs.Serving.{laid, loaded, bundleOver}
+use Rattle.lru.specs.Serving.{laid}
+use Rattle.lru.specs.inner.Cases.{loaded, bundleOver}
 
 -- the places from n up to k filled with zero
 laid-made : (n k : ℕ) (held cache c z : List ℕ) → n ≤ k → k ≤ length c → take n c ≡ held → length held ≡ n → drop k c ≡ drop k cache

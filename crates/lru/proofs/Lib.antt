@@ -2,3 +2,4 @@ pub mod Laying
 pub mod Served
 pub mod Refusals
 pub mod Steps
+pub mod Bundles

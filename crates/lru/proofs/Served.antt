@@ -13,11 +13,11 @@ use Rattle.lists.specs.Places.{place, movedToEnd}
 use Rattle.lists.proofs.Choice.{cases}
 use Rattle.lists.proofs.Leaves.{mem-place, length-moved, moved-toEnd}
 use Rattle.lists.proofs.Pages.{eraseAll-take}
-use Rattle.lru.specs.Serving.{laid, loaded, bundleOver, countedRun, cacheServed, evictedServed, replyServed}
+use Rattle.lru.specs.Serving.{laid, countedRun, cacheServed, evictedServed, replyServed}
 use Rattle.lru.specs.declared.Reply.{Reply}
 use Rattle.lru.specs.declared.Run.{Run}
 use Rattle.lru.specs.declared.serving.Found.the-variants.{Held, Room, Full}
-use Rattle.lru.specs.inner.Cases.{foundIn}
+use Rattle.lru.specs.inner.Cases.{foundIn, loaded, bundleOver}
 use Rattle.lru.specs.inner.Ready.{RequestReady}
 
 -- Finding

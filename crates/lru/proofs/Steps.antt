@@ -99,10 +99,10 @@ stands-empty k a cache least most k-most =
     }
 
 module _ {k a : ℕ} {trace : List ℕ} {run : Run} {count : ℕ} {cache : List ℕ} (s : Stands k a trace run count cache) where
-  k-is : run .k ≡ k
+  pub k-is : run .k ≡ k
   k-is = ap (λ (r : Run). r .k) (s .record-is)
 
-  a-is : run .a ≡ a
+  pub a-is : run .a ≡ a
   a-is = ap (λ (r : Run). r .a) (s .record-is)
 
   -- No refusal for the state: 8 is about the lent lists, 12 about the counter

@@ -1,7 +1,7 @@
 -- One request served by LRU (document 01, "LRU"): the run record, the cache list with its count, and the evicted list after it.
 -- The pages held are the first `count` of the cache list, from least to most recent.
 use Prim.Native.Nat.{ℕ, _+_, _-_}
-use mathlib.Core.List.{List, [], _∷_, _++_}
+use mathlib.Core.List.{List, [], _++_}
 use lib.ListN.{length, take, drop, replicate}
 use Rattle.lists.specs.Choice.{pick}
 use Rattle.lists.specs.Pages.{bit}
@@ -26,19 +26,6 @@ heldAfter run count cache page = serve (lruRule (run .a)) (run .k) page [] (take
 abbrev pub laid : (k : ℕ) → (held cache : List ℕ) → List ℕ
 laid k held cache = (held ++ replicate (k - length held) 0) ++ drop k cache
 
--- What a load does to the lists: the first `out` pages go as a bundle, least recent first; then the page is added. A load without a
--- bundle is the case 0.
-
-abbrev pub loaded : (out page : ℕ) → (held : List ℕ) → List ℕ
-loaded out page held = drop out held ++ (page ∷ [])
-
-abbrev pub bundleOver : (out : ℕ) → (held evicted : List ℕ) → List ℕ
-bundleOver out held evicted = take out held ++ drop out evicted
-
--- the pages that go at a request of this kind
-abbrev pub outOf : Kind → (a : ℕ) → ℕ
-outOf kind a = pick (isBundled kind) a 0
-
 -- The state after an accepted request
 
 -- one more request, with the loads and bundles it made
@@ -61,7 +48,7 @@ cacheServed run count cache page = laid (run .k) (heldAfter run count cache page
 -- a bundle in the first a places; no bundle, no change
 abbrev pub evictedServed : Run → (count : ℕ) → (cache evicted : List ℕ) → (page : ℕ) → List ℕ
 evictedServed run count cache evicted page =
-    bundleOver (outOf (kindIn run count cache page) (run .a)) (take count cache) evicted
+    pick (isBundled (kindIn run count cache page)) (lruRule (run .a) [] (take count cache) ++ drop (run .a) evicted) evicted
 
 abbrev pub replyServed : Run → (count : ℕ) → (cache : List ℕ) → (page : ℕ) → Reply
 replyServed run count cache page =

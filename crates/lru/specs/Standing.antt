@@ -11,7 +11,8 @@ use Rattle.lists.specs.Pages.{distinct}
 use Rattle.paging.specs.Lru.{lruRule}
 use Rattle.paging.specs.Policy.{holds, bundleCount, loadCount}
 use Rattle.paging.specs.Refusals.{SizesRight}
-use Rattle.lru.specs.Calls.{requestRefusal, replyOf, cacheOf}
+use Rattle.paging.specs.Schedule.{Entry, ev}
+use Rattle.lru.specs.Calls.{requestRefusal, replyOf, cacheOf, evictedOf}
 use Rattle.lru.specs.Serving.{emptyRun}
 use Rattle.lru.specs.declared.Run.{Run}
 
@@ -74,6 +75,18 @@ afterCalls (call ∷ calls) S = afterCalls calls (called call S)
 abbrev pub acceptedPages : List Call → State → List ℕ
 acceptedPages [] S = []
 acceptedPages (call ∷ calls) S = pick (accepts call S) (call .page ∷ []) [] ++ acceptedPages calls (called call S)
+
+-- the bundles that calls left, one after the other, as entries of a schedule. A call that answered 2 left one: the number of its request,
+-- and the first a places of its evicted list afterwards
+abbrev pub bundleLeft : Call → State → List Entry
+bundleLeft call S =
+    pick (eqb (replyOf (S .run) (S .count) (S .cache) (call .evicted) (call .page) .answer) 2)
+    (ev (S .run .requests) (take (S .run .a) (evictedOf (S .run) (S .count) (S .cache) (call .evicted) (call .page))) ∷ [])
+    []
+
+abbrev pub bundlesLeft : List Call → State → List Entry
+bundlesLeft [] S = []
+bundlesLeft (call ∷ calls) S = bundleLeft call S ++ bundlesLeft calls (called call S)
 
 abbrev pub pagesOf : List Call → List ℕ
 pagesOf [] = []

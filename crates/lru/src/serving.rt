@@ -3,12 +3,15 @@ ghost use Prim.Native.Nat.{_-_, _≤_, _<_};
 ghost use mathlib.Core.Path.{_≡_};
 ghost use lib.ListN.{length, take};
 ghost use Rattle.lists.specs.Places.{movedToEnd};
-ghost use Rattle.lru.specs.Serving.{laid, loaded, bundleOver, countedRun, cacheServed, evictedServed, replyServed};
+ghost use Rattle.lru.specs.Serving.{laid, countedRun, cacheServed, evictedServed, replyServed};
 ghost use Rattle.lru.specs.Standing.{runOver};
-ghost use Rattle.lru.specs.inner.Cases.{foundIn};
+ghost use Rattle.lru.specs.inner.Cases.{foundIn, loaded, bundleOver};
 ghost use Rattle.lru.specs.inner.Ready.{RequestReady, CountersFit, TraceReady};
 use crate::Reply;
 use crate::Run;
+
+// The places of a cache list, and of an evicted list, that suffice for every k and a.
+const PLACES: usize = Run::K_MAX as usize;
 
 // What a request finds: the page at a place of the pages held, or absent with room for it, or absent with k pages held.
 pub enum Found {
@@ -63,8 +66,8 @@ pub(crate) fn run_over(k: u32, a: u32, trace: &[u32]) -> Run
     requires { ⌜ TraceReady k a (now trace) ⌝ }
     ensures { λ r. ⌜ r ≡ runOver k a (now (trace .entry)) ⌝ }
 {
-    let mut cache = [0u32; 256];
-    let mut evicted = [0u32; 256];
+    let mut cache = [0u32; PLACES];
+    let mut evicted = [0u32; PLACES];
     let mut run = Run::empty(k, a);
     let mut count = 0u32;
     let mut i = 0;

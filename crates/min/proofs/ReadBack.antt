@@ -5,19 +5,17 @@ use native.Mathlib.Nat.{zero-add, zero-mul, one-mul, add-mul}
 use native.Mathlib.Omega.{arith}
 use mathlib.Core.List.{List, [], _∷_, _++_}
 use mathlib.Core.Path.{_≡_, sym, _∙_, ap}
-use lib.Dec.{ltb}
 use lib.ListN.{length, length-append}
 use lib.Seq.{length-take-le}
 use Rattle.lists.specs.Choice.{pick}
-use Rattle.lists.specs.Pages.{mem, bit, count}
+use Rattle.lists.specs.Pages.{bit, count}
 use Rattle.lists.specs.Sorting.{sortBy}
-use Rattle.lists.proofs.Choice.{tests, cases}
 use Rattle.lists.proofs.Sorting.{length-sort}
 use Rattle.paging.specs.Min.{farther, minRule, bestCount}
-use Rattle.paging.specs.Policy.{Kind, hit, load, bundled, isBundled, kindOf, serve, kinds, bundles}
+use Rattle.paging.specs.Policy.{isBundled, serve, kinds, bundles}
 use Rattle.paging.specs.Refusals.{SizesRight}
 use Rattle.paging.specs.Schedule.{ev, entriesCost}
-use Rattle.paging.proofs.Runs.{bundles-cost}
+use Rattle.paging.proofs.Runs.{kind-of-cases, bundles-cost}
 use Rattle.records.specs.Bytes.{evBytes, entryBytes, joined, evLength, scheduleBytes, AllWritable}
 use Rattle.records.proofs.Lengths.{length-evBytes}
 use Rattle.reading.specs.Files.{entriesFrom}
@@ -25,12 +23,7 @@ use Rattle.reading.specs.Reading.{sizes, readSchedule}
 use Rattle.reading.proofs.RoundTrip.{schedule-reads-back}
 use Rattle.min.specs.Calls.{minSchedule}
 
--- a bundle is made only where k pages are held
-kind-of-cases : (P : Kind → Type 0) (k p : ℕ) (held : List ℕ) → P hit → P load → (k ≤ length held → P bundled) → P (kindOf k p held)
-kind-of-cases P k p held f g h =
-    cases (mem p held) (λ e. rw e f) (λ e. rw e (cases (ltb (length held) k) (λ d. rw d g) (λ d. rw d (h (omega tests)))))
-
--- it takes a pages
+-- a bundle takes a pages
 bundle-many : (k a : ℕ) (later held : List ℕ) → a ≤ k → k ≤ length held → length (minRule a later held) ≡ a
 bundle-many k a later held h g = length-take-le a (sortBy (farther later) held) (omega (arith, length-sort (farther later) held))
 

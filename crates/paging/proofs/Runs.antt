@@ -1,14 +1,22 @@
 -- A run over two traces, one behind the other, is the run over the first and then, from where that led, the run over the second.
 -- What the first run sees to come is the second trace.
-use Prim.Native.Nat.{ℕ, suc, _+_}
+use Prim.Native.Nat.{ℕ, suc, _+_, _≤_}
 use native.Mathlib.Omega.{arith}
 use mathlib.Core.List.{List, [], _∷_, _++_, append-assoc}
 use mathlib.Core.Path.{_≡_, refl, ap, _∙_}
+use lib.Dec.{ltb}
+use lib.ListN.{length}
 use Rattle.lists.specs.Choice.{pick}
-use Rattle.lists.specs.Pages.{count, bit}
+use Rattle.lists.specs.Pages.{mem, count, bit}
+use Rattle.lists.proofs.Choice.{cases, tests}
 use Rattle.paging.specs.Lru.{lruRule}
 use Rattle.paging.specs.Policy.{Rule, Kind, hit, load, bundled, isBundled, kindOf, serve, holds, kinds, bundles}
 use Rattle.paging.specs.Schedule.{Entry, ev, entriesCost}
+
+-- what a request is, by cases: a bundle is made only where k pages are held
+pub kind-of-cases : (P : Kind → Type 0) (k p : ℕ) (held : List ℕ) → P hit → P load → (k ≤ length held → P bundled) → P (kindOf k p held)
+kind-of-cases P k p held f g h =
+    cases (mem p held) (λ e. rw e f) (λ e. rw e (cases (ltb (length held) k) (λ d. rw d g) (λ d. rw d (h (omega tests)))))
 
 module _ (rule : Rule) (k : ℕ) where
   pub holds-append : (xs ys later held : List ℕ) → holds rule k (xs ++ ys) later held ≡ holds rule k ys later (holds rule k xs (ys ++ later) held)
