@@ -2,6 +2,7 @@
 ghost use Prim.Native.Nat.{_≤_, _<_};
 ghost use mathlib.Core.Path.{_≡_};
 ghost use lib.ListN.{length};
+ghost use Rattle.paging.specs.Refusals.{largestK};
 ghost use Rattle.reading.specs.Files.{requestsFrom};
 ghost use Rattle.judging.specs.Answer.{answerNumber};
 ghost use Rattle.judging.specs.Files.{judged, scheduleJudged};
@@ -9,7 +10,7 @@ ghost use Rattle.judge.specs.inner.Verdicts.{verdictAnswer, countedIn, c
 use crate::entries::Place;
 use crate::run::Verdict;
 use crate::run::run;
-use paging::Trace;
+use paging::Sizes;
 use reading::ScheduleRecord;
 use reading::TraceRecord;
 use reading::schedule_within;
@@ -31,7 +32,7 @@ fn count(trace: &[u8], at: usize) -> Counted
     loop {
         match trace_record(trace, from) {
             TraceRecord::Request { page: _, next } => {
-                if n == Trace::LONGEST {
+                if n == Sizes::TRACE_MAX {
                     return Counted::Refused(3);
                 }
                 n += 1;
@@ -63,7 +64,7 @@ fn schedule_answer(
     k: u32,
     a: u32,
 ) -> Verdict
-    requires { ⌜ (0 < at) × (requestsFrom (now trace) at .damage ≡ 0) × (requests ≡ length (requestsFrom (now trace) at .held)) × (k ≤ 256) ⌝ }
+    requires { ⌜ (0 < at) × (requestsFrom (now trace) at .damage ≡ 0) × (requests ≡ length (requestsFrom (now trace) at .held)) × (k ≤ largestK) ⌝ }
     ensures { λ r. ⌜ (verdictAnswer r ≡ scheduleJudged k a (requestsFrom (now (trace .entry)) at .held) (now (schedule .entry))) × AtMost (length (now (schedule .entry))) r ⌝ }
 {
     match schedule_within(schedule, 0, a) {
@@ -78,7 +79,7 @@ fn schedule_answer(
             if own_a != a {
                 return Verdict::Refused(6);
             }
-            let mut held = [0u32; 256];
+            let mut held = [0u32; Sizes::K_MAX as usize];
             let first = Place {
                 t: 0,
                 at,

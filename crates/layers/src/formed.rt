@@ -5,11 +5,15 @@ ghost use lib.Dec.{eqb, ltb};
 ghost use lib.ListN.{length};
 ghost use Rattle.lists.specs.Choice.{_or_};
 ghost use Rattle.lists.specs.Pages.{count};
+ghost use Rattle.paging.specs.Refusals.{largestK};
 ghost use Rattle.paging.specs.Rows.{rowAt, rowsOf};
 ghost use Rattle.paging.specs.Table.{aboveZero};
 ghost use Rattle.layers.specs.Formed.{isUnused, follows, ordered, layersWellFormed};
 ghost use Rattle.layers.specs.inner.Sizes.{Tallied, presentIn, singleIn, numbered, sizesFormed};
 use crate::LayersRun;
+
+// The numbers that a place can have: 0, and those of the layers.
+pub(crate) const NUMBERS: usize = LayersRun::K_MAX as usize + 1;
 
 // The place is used, or it holds two zeros.
 fn used_or_zero(n: u32, p: u32) -> bool
@@ -63,16 +67,16 @@ pub(crate) fn wide(n: u32) -> usize
     n as usize
 }
 
-// How many places have each number from 0 to 256.
-pub(crate) fn tally(numbers: &[u32]) -> [usize; 257]
+// How many places have each number.
+pub(crate) fn tally(numbers: &[u32]) -> [usize; NUMBERS]
     ensures { λ r. ⌜ Tallied (now (numbers .entry)) r ⌝ }
 {
-    let mut sizes = [0usize; 257];
+    let mut sizes = [0usize; NUMBERS];
     let mut i = 0;
     while i < numbers.len() {
         let n = wide(numbers[i]);
         i += 1;
-        if n < 257 {
+        if n < NUMBERS {
             sizes[n] = sizes[n] + 1;
         }
     }
@@ -110,7 +114,7 @@ fn none_above(numbers: &[u32], s: u32) -> bool
 }
 
 // Whether layers 1 to s are all present.
-fn present(sizes: &[usize; 257], s: usize) -> bool
+fn present(sizes: &[usize; NUMBERS], s: usize) -> bool
     requires { ⌜ (length (now sizes) ≡ 257) × (s < 257) ⌝ }
     ensures { λ r. ⌜ r ≡ presentIn s (now (sizes .entry)) ⌝ }
 {
@@ -125,7 +129,7 @@ fn present(sizes: &[usize; 257], s: usize) -> bool
 }
 
 // Whether each layer of 1 to s that is above the limit has no second page.
-fn single_above(sizes: &[usize; 257], limit: usize, s: usize) -> bool
+fn single_above(sizes: &[usize; NUMBERS], limit: usize, s: usize) -> bool
     requires { ⌜ (length (now sizes) ≡ 257) × (s < 257) ⌝ }
     ensures { λ r. ⌜ r ≡ singleIn limit s (now (sizes .entry)) ⌝ }
 {
@@ -141,7 +145,7 @@ fn single_above(sizes: &[usize; 257], limit: usize, s: usize) -> bool
 
 // Whether the layers' sizes are well formed.
 fn layers_sized(run: LayersRun, numbers: &[u32]) -> bool
-    requires { ⌜ (run .a ≤ run .k) × (run .k ≤ 256) × (run .s ≤ run .k) ⌝ }
+    requires { ⌜ (run .a ≤ run .k) × (run .k ≤ largestK) × (run .s ≤ run .k) ⌝ }
     ensures { λ r. ⌜ r ≡ sizesFormed run (numbered (now (numbers .entry))) ⌝ }
 {
     let limit = wide(run.k - run.a);
@@ -161,7 +165,7 @@ fn layers_sized(run: LayersRun, numbers: &[u32]) -> bool
 
 // Whether the record and the table are well formed, for sizes that were judged.
 pub(crate) fn well_formed(run: LayersRun, pages: &[u32], numbers: &[u32]) -> bool
-    requires { ⌜ (length (now pages) ≡ length (now numbers)) × (run .a ≤ run .k) × (run .k ≤ 256) ⌝ }
+    requires { ⌜ (length (now pages) ≡ length (now numbers)) × (run .a ≤ run .k) × (run .k ≤ largestK) ⌝ }
     ensures { λ r. ⌜ r ≡ layersWellFormed run (rowsOf (now (numbers .entry)) (now (pages .entry))) ⌝ }
 {
     if run.evictions > run.requests {

@@ -21,9 +21,10 @@ pub struct LayersRun {
 
 impl LayersRun {
     // The largest k.
-    pub const K_MAX: u32 = 256;
+    pub const K_MAX: u32 = Sizes::K_MAX;
+
     // At this many requests a further one is refused (12).
-    pub const COUNTER_MAX: u32 = 4294967295;
+    pub const COUNTER_MAX: u32 = paging::COUNTER_MAX;
 
     // The empty state. Its table is all unused, of any size.
     pub fn empty(k: u32, a: u32) -> LayersRun

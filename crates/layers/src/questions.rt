@@ -3,15 +3,17 @@ ghost use Prim.Native.Nat.{ℕ, _≤_, _<_};
 ghost use mathlib.Core.List.{map};
 ghost use mathlib.Core.Path.{_≡_};
 ghost use lib.ListN.{length, getD};
+ghost use Rattle.paging.specs.Refusals.{largestK};
 ghost use Rattle.paging.specs.Rows.{rowsOf};
 ghost use Rattle.paging.specs.Table.{numberIn, revealed};
 ghost use Rattle.layers.specs.inner.Sizes.{Tallied, numbered, Walked};
 use crate::PossibleAnswer;
 use crate::formed;
+use crate::formed::NUMBERS;
 
 // How many layers from s down have a single page.
 pub(crate) fn singles_at_top(numbers: &[u32], s: u32) -> u32
-    requires { ⌜ s ≤ 256 ⌝ }
+    requires { ⌜ s ≤ largestK ⌝ }
     ensures { λ r. ⌜ r ≡ revealed s (numbered (now (numbers .entry))) ⌝ }
 {
     let sizes = formed::tally(numbers);
@@ -27,17 +29,17 @@ pub(crate) fn singles_at_top(numbers: &[u32], s: u32) -> u32
     n
 }
 
-// How many pages of the set have each number from 0 to 256.
-pub(crate) fn tally_set(pages: &[u32], numbers: &[u32], set: &[u32]) -> [usize; 257]
+// How many pages of the set have each number.
+pub(crate) fn tally_set(pages: &[u32], numbers: &[u32], set: &[u32]) -> [usize; NUMBERS]
     requires { ⌜ length (now pages) ≡ length (now numbers) ⌝ }
     ensures { λ r. ⌜ Tallied (map (numberIn (rowsOf (now (numbers .entry)) (now (pages .entry)))) (now (set .entry))) r ⌝ }
 {
-    let mut sizes = [0usize; 257];
+    let mut sizes = [0usize; NUMBERS];
     let mut i = 0;
     while i < set.len() {
         let n = formed::wide(table::number_in(pages, numbers, set[i]));
         i += 1;
-        if n < 257 {
+        if n < NUMBERS {
             sizes[n] = sizes[n] + 1;
         }
     }
@@ -45,8 +47,8 @@ pub(crate) fn tally_set(pages: &[u32], numbers: &[u32], set: &[u32]) -> [usize; 
 }
 
 // The smallest layer i of 0 to s such that more than i pages are in L0 to Li, if there is one.
-pub(crate) fn first_broken(sizes: &[usize; 257], s: u32) -> PossibleAnswer
-    requires { ⌜ (length (now sizes) ≡ 257) × (s ≤ 256) × ((j : ℕ) → j < 257 → getD (now sizes) j 0 ≤ 256) ⌝ }
+pub(crate) fn first_broken(sizes: &[usize; NUMBERS], s: u32) -> PossibleAnswer
+    requires { ⌜ (length (now sizes) ≡ 257) × (s ≤ largestK) × ((j : ℕ) → j < 257 → getD (now sizes) j 0 ≤ largestK) ⌝ }
     ensures { λ r. ⌜ Walked s (now (sizes .entry)) r ⌝ }
 {
     let mut total = 0;

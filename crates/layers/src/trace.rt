@@ -2,6 +2,7 @@
 ghost use Prim.Native.Nat.{_+_, _≤_, min};
 ghost use mathlib.Core.Path.{_≡_};
 ghost use lib.ListN.{length, replicate};
+ghost use Rattle.paging.specs.Refusals.{longestTrace};
 ghost use Rattle.paging.specs.Rows.{rowsOf, unused};
 ghost use Rattle.table.specs.Serving.{Sound};
 ghost use Rattle.layers.specs.Traces.{allUnused, earlyRefusal};
@@ -33,7 +34,7 @@ pub(crate) fn serve_all(
     pages: &mut [u32],
     numbers: &mut [u32],
 ) -> Served
-    requires { ⌜ (length (now pages) ≡ length (now numbers)) × Sound k a 0 × (length (now trace) ≤ 65536)
+    requires { ⌜ (length (now pages) ≡ length (now numbers)) × Sound k a 0 × (length (now trace) ≤ longestTrace)
         × (rowsOf (now numbers) (now pages) ≡ replicate (length (now pages)) unused) ⌝ }
     ensures { λ r. ⌜ ServedTo k a (now (trace .entry)) (length (now (pages .entry))) (rowsOf (now (numbers .exit)) (now (pages .exit))) r ⌝ }
 {

@@ -17,9 +17,11 @@ pub struct Run {
 }
 
 impl Run {
-    pub const K_MAX: u32 = paging::Sizes::K_MAX;
+    // The largest k.
+    pub const K_MAX: u32 = Sizes::K_MAX;
 
-    pub const COUNTER_MAX: u32 = paging::Counter::MAX;
+    // At this many requests a further one is refused (12).
+    pub const COUNTER_MAX: u32 = paging::COUNTER_MAX;
 
     // The empty start.
     pub fn empty(k: u32, a: u32) -> Run

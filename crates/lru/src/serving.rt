@@ -10,9 +10,6 @@ ghost use Rattle.lru.specs.inner.Ready.{RequestReady, CountersFit, Trace
 use crate::Reply;
 use crate::Run;
 
-// The places of a cache list, and of an evicted list, that suffice for every k and a.
-const PLACES: usize = Run::K_MAX as usize;
-
 // What a request finds: the page at a place of the pages held, or absent with room for it, or absent with k pages held.
 pub enum Found {
     Held(usize),
@@ -66,8 +63,8 @@ pub(crate) fn run_over(k: u32, a: u32, trace: &[u32]) -> Run
     requires { ⌜ TraceReady k a (now trace) ⌝ }
     ensures { λ r. ⌜ r ≡ runOver k a (now (trace .entry)) ⌝ }
 {
-    let mut cache = [0u32; PLACES];
-    let mut evicted = [0u32; PLACES];
+    let mut cache = [0u32; Run::K_MAX as usize];
+    let mut evicted = [0u32; Run::K_MAX as usize];
     let mut run = Run::empty(k, a);
     let mut count = 0u32;
     let mut i = 0;

@@ -1,6 +1,7 @@
 // Farthest next use over a lent trace, and the schedule that it writes (document 01, "MIN").
 ghost use mathlib.Core.Path.{_≡_};
 ghost use Rattle.min.specs.Calls.{countsOf, scheduledOf, bytesOf};
+use paging::Sizes;
 
 mod run;
 mod write;
@@ -24,7 +25,7 @@ pub struct Scheduled {
 pub fn count(k: u32, a: u32, trace: &[u32]) -> Counts
     ensures { λ r. ⌜ r ≡ countsOf k a (now (trace .entry)) ⌝ }
 {
-    let no = paging::Sizes { k, a }.trace_refusal(trace);
+    let no = Sizes { k, a }.trace_refusal(trace);
     if no != 0 {
         return Counts {
             refusal: no,
@@ -32,7 +33,7 @@ pub fn count(k: u32, a: u32, trace: &[u32]) -> Counts
             loads: 0,
         };
     }
-    let mut lefts = [0u32; 65536];
+    let mut lefts = [0u32; Sizes::TRACE_MAX];
     let all = run::counted(k, a, trace, &mut lefts);
     Counts {
         refusal: 0,
@@ -46,7 +47,7 @@ pub fn schedule(k: u32, a: u32, trace: &[u32], out: &mut [u8]) -> Scheduled
     ensures { λ r. ⌜ (r ≡ scheduledOf k a (now (trace .entry)) (now (out .entry)))
         × (now (out .exit) ≡ bytesOf k a (now (trace .entry)) (now (out .entry))) ⌝ }
 {
-    let no = paging::Sizes { k, a }.trace_refusal(trace);
+    let no = Sizes { k, a }.trace_refusal(trace);
     if no != 0 {
         return Scheduled {
             refusal: no,
@@ -55,6 +56,6 @@ pub fn schedule(k: u32, a: u32, trace: &[u32], out: &mut [u8]) -> Scheduled
             length: 0,
         };
     }
-    let mut lefts = [0u32; 65536];
+    let mut lefts = [0u32; Sizes::TRACE_MAX];
     write::scheduled(k, a, trace, &mut lefts, out)
 }

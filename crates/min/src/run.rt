@@ -5,6 +5,7 @@ ghost use Rattle.lists.specs.Pages.{bit, count};
 ghost use Rattle.paging.specs.Policy.{isBundled, isLoad};
 ghost use Rattle.keys.specs.Keys.{kindFrom, kindsOf};
 ghost use Rattle.min.specs.inner.Run.{PassReady, Accepted, Counted};
+use paging::Sizes;
 
 pub struct Totals {
     pub bundles: u32,
@@ -36,7 +37,7 @@ pub(crate) fn pass(k: usize, a: usize, trace: &[u32], lefts: &[u32]) -> Totals
     requires { ⌜ PassReady k a (now trace) (now lefts) ⌝ }
     ensures { λ r. ⌜ (r .bundles ≡ count isBundled (kindsOf k a (now (trace .entry)) [])) × (r .loads ≡ count isLoad (kindsOf k a (now (trace .entry)) [])) ⌝ }
 {
-    let mut held = [0u64; 256];
+    let mut held = [0u64; Sizes::K_MAX as usize];
     let mut n = 0;
     let mut t = 0;
     let mut bundles = 0;

@@ -3,6 +3,7 @@ ghost use Prim.Native.Nat.{_+_, _*_, _≤_, _<_};
 ghost use mathlib.Core.List.{[], map};
 ghost use mathlib.Core.Path.{_≡_};
 ghost use lib.ListN.{length, take};
+ghost use Rattle.paging.specs.Refusals.{largestK, longestTrace};
 ghost use Rattle.wire.specs.Numbers.{placed};
 ghost use Rattle.records.specs.Bytes.{evLength, evBytes, entryBytes, joined};
 ghost use Rattle.keys.specs.Keys.{pageOf, kindFrom, bundleOf, bundlesOf};
@@ -10,6 +11,7 @@ ghost use Rattle.min.specs.Calls.{bytesRefusal, scheduledBy, bytesBy};
 ghost use Rattle.min.specs.inner.Run.{PassReady, Accepted, EvRoom, BundleRoom};
 use crate::Scheduled;
 use crate::run;
+use paging::Sizes;
 
 // The pages of the first a keys.
 fn copy_pages(held: &[u64], a: usize, pages: &mut [u32])
@@ -28,7 +30,7 @@ fn put_bundle(held: &[u64], a: usize, t: u32, rest: &mut [u8]) -> usize
     requires { ⌜ EvRoom a (now held) (now rest) ⌝ }
     ensures { λ r. ⌜ (r ≡ evLength a) × (now (rest .exit) ≡ placed (now (rest .entry)) 0 (evBytes t (map pageOf (take a (now (held .entry)))))) ⌝ }
 {
-    let mut pages = [0u32; 256];
+    let mut pages = [0u32; Sizes::K_MAX as usize];
     copy_pages(held, a, &mut pages);
     records::put::ev(rest, t, &pages[..a])
 }
@@ -62,7 +64,7 @@ fn put_bundles(k: usize, a: usize, trace: &[u32], lefts: &[u32], out: &mut [u8],
     requires { ⌜ PassReady k a (now trace) (now lefts) × (from + length (joined entryBytes (bundlesOf k a 0 (now trace) [])) ≤ length (now out)) ⌝ }
     ensures { λ r. ⌜ now (out .exit) ≡ placed (now (out .entry)) from (joined entryBytes (bundlesOf k a 0 (now (trace .entry)) [])) ⌝ }
 {
-    let mut held = [0u64; 256];
+    let mut held = [0u64; Sizes::K_MAX as usize];
     let mut n = 0;
     let mut t = 0;
     let mut at = from;
@@ -79,7 +81,7 @@ fn put_bundles(k: usize, a: usize, trace: &[u32], lefts: &[u32], out: &mut [u8],
 
 // The length of a schedule of so many bundles.
 fn schedule_length(a: u32, bundles: u32) -> usize
-    requires { ⌜ (a ≤ 256) × (bundles ≤ 65536) ⌝ }
+    requires { ⌜ (a ≤ largestK) × (bundles ≤ longestTrace) ⌝ }
     ensures { λ r. ⌜ r ≡ 6 + bundles * evLength a ⌝ }
 {
     records::length::KA + (bundles as usize) * records::length::ev_length(a as usize)

@@ -7,6 +7,7 @@ use mathlib.Core.Path.{_≡_}
 use lib.Dec.{eqb}
 use lib.ListN.{length, drop, getD}
 use Rattle.lists.specs.Choice.{pick}
+use Rattle.paging.specs.Refusals.{longestTrace}
 use Rattle.next_use.specs.Left.{left}
 
 abbrev pub pageAt : (trace : List ℕ) → (t : ℕ) → ℕ
@@ -52,25 +53,25 @@ pub record LeftsFilled (c : ℕ) (trace seen lefts : List ℕ) : Type 0 where
 
 -- The places that are lent for all this
 pub record Tables (trace heads before seen lefts : List ℕ) : Type 0 where
-  pub short : length trace ≤ 65536
+  pub short : length trace ≤ longestTrace
   pub halves : length heads ≡ 65536
-  pub places : length before ≡ 65536
+  pub places : length before ≡ longestTrace
   pub table : length seen ≡ 65536
   pub room : length trace ≤ length lefts
 
 -- Before the chains are made
 pub record Unchained (trace heads before : List ℕ) : Type 0 where
-  pub short : length trace ≤ 65536
+  pub short : length trace ≤ longestTrace
   pub halves : length heads ≡ 65536
-  pub places : length before ≡ 65536
+  pub places : length before ≡ longestTrace
   pub clear : (c : ℕ) → getD heads c 0 ≡ 0
 
 -- Before the chain of c is walked
 pub record Walkable (c : ℕ) (trace heads before seen lefts : List ℕ) : Type 0 where
-  pub short : length trace ≤ 65536
+  pub short : length trace ≤ longestTrace
   pub half : c < 65536
   pub halves : length heads ≡ 65536
-  pub places : length before ≡ 65536
+  pub places : length before ≡ longestTrace
   pub table : length seen ≡ 65536
   pub room : length trace ≤ length lefts
   pub chained : Chained (length trace) trace heads before

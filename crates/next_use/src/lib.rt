@@ -2,8 +2,13 @@
 ghost use Prim.Native.Nat.{_≤_, _+_};
 ghost use mathlib.Core.Path.{_≡_};
 ghost use lib.ListN.{length, take};
+ghost use Rattle.paging.specs.Refusals.{longestTrace};
 ghost use Rattle.next_use.specs.Chains.{toldOf, Chained, LeftsFilled, Tables, Unchained, Walkable};
 ghost use Rattle.next_use.specs.Left.{leftsOf};
+use paging::Sizes;
+
+// The values of the low half of a page, and of its high half: 16 bits each.
+const HALVES: usize = 65536;
 
 // Chains the requests by the low half of their pages: heads has one more than the last request of each chain, before for each request
 // one more than the one before it.
@@ -65,7 +70,7 @@ fn fill_by(
     lists::moves::fill_zero(seen);
     chain(trace, heads, before);
     let mut c = 0;
-    while c < 65536 {
+    while c < HALVES {
         walk(trace, heads, before, c, seen, lefts);
         c += 1;
     }
@@ -73,11 +78,11 @@ fn fill_by(
 
 // Entry t is how near the next request of request t's page is.
 pub fn fill_lefts(trace: &[u32], lefts: &mut [u32])
-    requires { ⌜ (length (now trace) ≤ 65536) × (length (now trace) ≤ length (now lefts)) ⌝ }
+    requires { ⌜ (length (now trace) ≤ longestTrace) × (length (now trace) ≤ length (now lefts)) ⌝ }
     ensures { λ r. ⌜ take (length (now (trace .entry))) (now (lefts .exit)) ≡ leftsOf (now (trace .entry)) ⌝ }
 {
-    let mut heads = [0u32; 65536];
-    let mut before = [0u32; 65536];
-    let mut seen = [0u32; 65536];
+    let mut heads = [0u32; HALVES];
+    let mut before = [0u32; Sizes::TRACE_MAX];
+    let mut seen = [0u32; HALVES];
     fill_by(trace, &mut heads, &mut before, &mut seen, lefts);
 }

@@ -3,6 +3,9 @@
 ghost use mathlib.Core.Path.{_≡_};
 ghost use Rattle.paging.specs.Refusals.{sizesRefusal, traceRefusal};
 
+// The largest number of a counter, which has 32 bits. The records that count have it as a constant of their own.
+pub const COUNTER_MAX: u32 = 4294967295;
+
 // The buffer's size k and the bundle's size a, as a call is handed them: any two numbers.
 pub struct Sizes {
     pub k: u32,
@@ -12,6 +15,9 @@ pub struct Sizes {
 impl Sizes {
     // The largest k.
     pub const K_MAX: u32 = 256;
+
+    // The most requests of a trace, as a lent list or as a file.
+    pub const TRACE_MAX: usize = 65536;
 
     // 1 where k is 0 or above 256, 2 where a is 0 or above k, else 0.
     pub fn refusal(self) -> u32
@@ -42,29 +48,9 @@ impl Sizes {
         if no != 0 {
             return no;
         }
-        if trace.len() > Trace::LONGEST {
+        if trace.len() > Sizes::TRACE_MAX {
             return 3;
         }
         0
     }
-}
-
-// A counter of 32 bits: requests, loads, evictions.
-pub struct Counter {
-    pub count: u32,
-}
-
-impl Counter {
-    // At this many requests a further one is refused (12).
-    pub const MAX: u32 = 4294967295;
-}
-
-// A trace that MIN or the judge is handed, by its number of requests.
-pub struct Trace {
-    pub requests: usize,
-}
-
-impl Trace {
-    // The most requests of such a trace.
-    pub const LONGEST: usize = 65536;
 }

@@ -13,7 +13,7 @@ pub const PF: usize = 10;
 pub const EV_HEAD: usize = 8;
 
 // The most pages of an EV, and so the table's last entry.
-pub const PAGES_MAX: usize = 256;
+pub const PAGES_MAX: usize = paging::Sizes::K_MAX as usize;
 
 const EV_LENGTHS: [u16; 257] = [
     8,

@@ -6,7 +6,7 @@ use lib.ListN.{length, take, drop}
 use Rattle.lists.specs.Pages.{count}
 use Rattle.paging.specs.Min.{bestCount, minLoads}
 use Rattle.paging.specs.Policy.{isBundled, isLoad}
-use Rattle.paging.specs.Refusals.{SizesRight, longestTrace}
+use Rattle.paging.specs.Refusals.{SizesRight, largestK, longestTrace}
 use Rattle.wire.specs.Numbers.{placed}
 use Rattle.records.specs.Bytes.{evLength, entryBytes, joined}
 use Rattle.next_use.specs.Left.{leftsOf}
@@ -28,7 +28,7 @@ pub record PassReady (k a : ℕ) (trace lefts : List ℕ) : Type 0 where
 pub record Standing (k t n : ℕ) (trace keys : List ℕ) : Type 0 where
   pub within : t ≤ length trace
   pub held : n ≤ k
-  pub places : length keys ≡ 256
+  pub places : length keys ≡ largestK
 
 -- before request t, with the bundles and loads so far: what is to come makes up the whole
 pub record Counting (k a t n bundles loads : ℕ) (trace keys : List ℕ) : Type 0 where
@@ -47,17 +47,17 @@ pub record Counted (k a : ℕ) (trace lefts : List ℕ) (bundles loads : ℕ) : 
 -- an EV of the pages of the first a keys fits into the rest of the bytes
 pub record EvRoom (a : ℕ) (keys rest : List ℕ) : Type 0 where
   pub some : 0 < a
-  pub small : a ≤ 256
+  pub small : a ≤ largestK
   pub held : a ≤ length keys
   pub room : evLength a ≤ length rest
 
 -- what a request of this kind writes fits from the offset on
 pub record BundleRoom (kind n a t at : ℕ) (keys out : List ℕ) : Type 0 where
   pub some : 0 < a
-  pub small : a ≤ 256
+  pub small : a ≤ largestK
   pub held : n ≤ length keys
   pub full : (kind ≡ 0 → ⊥) → (kind ≡ 1 → ⊥) → a ≤ n
-  pub early : t < 65536
+  pub early : t < longestTrace
   pub room : at + length (joined entryBytes (bundleOf (kindFrom kind) a t (take n keys) [])) ≤ length out
 
 -- before request t, with `at` bytes written: what is to come, put behind them, makes the whole
