@@ -14,7 +14,7 @@ use Rattle.records.specs.Bytes.{traceBytes}
 use Rattle.lru.specs.Calls as lru
 use Rattle.lru.specs.Standing.{Call, State, afterCalls, emptyState}
 use Rattle.layers.specs.Calls.{requestRefusal}
-use Rattle.layers.specs.Questions.{Verdict, refusedWith, possibleSet, countDiffers, broken, verdict, layersIn}
+use Rattle.layers.specs.Questions.{Verdict, refusedWith, possibleSet, countDiffers, brokenAt, verdict, layersIn}
 use Rattle.layers.specs.Traces.{traceTotals}
 use Rattle.min.specs.Calls.{countsOf}
 use Rattle.report.specs.Calls.{counts, layersCounts, reportOf}
@@ -33,7 +33,7 @@ pub data Row : Type 0 where
   counted : (k a : ℕ) (pages : List ℕ) (byMin byLru byLayers s : ℕ) → Row
   -- the table after requests to the layers
   tabled : (k a places : ℕ) (pages tablePages numbers : List ℕ) → Row
-  -- after some requests, a set's verdict, and for each layer from 0 to s whether the rule breaks at it
+  -- after some requests, a set's verdict, and for each layer from 0 to s whether the rule breaks at it: a "no" names one of those
   asked : (k a places : ℕ) (pages set : List ℕ) (said : Verdict) (layers : List Bool) → Row
   -- after some requests, the refusal of a further one, 0 for none
   refuses : (k a places : ℕ) (pages : List ℕ) (page number : ℕ) → Row
@@ -69,23 +69,19 @@ sameReport x y =
     and eqb (x .lru .bundles) (y .lru .bundles) and eqb (x .lru .loads) (y .lru .loads)
     and eqb (x .layers .bundles) (y .layers .bundles) and eqb (x .layers .s) (y .layers .s) and eqb (x .layers .revealed) (y .layers .revealed)
 
-abbrev pub sameVerdict : Verdict → Verdict → Bool
-sameVerdict possibleSet possibleSet = true
-sameVerdict countDiffers countDiffers = true
-sameVerdict broken broken = true
-sameVerdict (refusedWith m) (refusedWith n) = eqb m n
-sameVerdict possibleSet countDiffers = false
-sameVerdict possibleSet broken = false
-sameVerdict possibleSet (refusedWith n) = false
-sameVerdict countDiffers possibleSet = false
-sameVerdict countDiffers broken = false
-sameVerdict countDiffers (refusedWith n) = false
-sameVerdict broken possibleSet = false
-sameVerdict broken countDiffers = false
-sameVerdict broken (refusedWith n) = false
-sameVerdict (refusedWith m) possibleSet = false
-sameVerdict (refusedWith m) countDiffers = false
-sameVerdict (refusedWith m) broken = false
+-- a verdict spelled as two numbers: its case, and the number that it holds
+abbrev pub spelled : Verdict → List ℕ
+spelled (refusedWith number) = 0 ∷ number ∷ []
+spelled possibleSet = 1 ∷ 0 ∷ []
+spelled countDiffers = 2 ∷ 0 ∷ []
+spelled (brokenAt layer) = 3 ∷ layer ∷ []
+
+-- the layer that a "no" names
+abbrev pub named : Verdict → ℕ
+named (refusedWith number) = 0
+named possibleSet = 0
+named countDiffers = 0
+named (brokenAt layer) = layer
 
 abbrev pub sameTest : Bool → Bool → Bool
 sameTest true y = y
@@ -109,7 +105,8 @@ right (counted k a pages byMin byLru byLayers s) =
 right (tabled k a places pages tablePages numbers) =
     let x = layersAt k a places pages in samePages (x .pages) tablePages and samePages (x .numbers) numbers
 right (asked k a places pages set said layers) =
-    let x = layersAt k a places pages in sameVerdict (verdict (x .run) (x .pages) (x .numbers) set) said and sameTests (breaks (x .run .s) x set) layers
+    let x = layersAt k a places pages in
+    samePages (spelled (verdict (x .run) (x .pages) (x .numbers) set (named said))) (spelled said) and sameTests (breaks (x .run .s) x set) layers
 right (refuses k a places pages page number) =
     let x = layersAt k a places pages in eqb (requestRefusal (x .run) (x .pages) (x .numbers) page) number
 
@@ -130,8 +127,8 @@ markedCases =
     -- 5. after seven requests {5,6} is possible
     ∷ asked 3 2 8 (take 7 shift) (5 ∷ 6 ∷ []) possibleSet (false ∷ false ∷ false ∷ [])
     -- 6. there {2,4} breaks at layer 1 and {1,6} at layer 0, each at no other; {6} differs in count; {6,6} is 11
-    ∷ asked 3 2 8 (take 7 shift) (2 ∷ 4 ∷ []) broken (false ∷ true ∷ false ∷ [])
-    ∷ asked 3 2 8 (take 7 shift) (1 ∷ 6 ∷ []) broken (true ∷ false ∷ false ∷ [])
+    ∷ asked 3 2 8 (take 7 shift) (2 ∷ 4 ∷ []) (brokenAt 1) (false ∷ true ∷ false ∷ [])
+    ∷ asked 3 2 8 (take 7 shift) (1 ∷ 6 ∷ []) (brokenAt 0) (true ∷ false ∷ false ∷ [])
     ∷ asked 3 2 8 (take 7 shift) (6 ∷ []) countDiffers (false ∷ false ∷ false ∷ [])
     ∷ asked 3 2 8 (take 7 shift) (6 ∷ 6 ∷ []) (refusedWith 11) (false ∷ false ∷ false ∷ [])
     -- 7. k 2, a 2, pages 1 2 3: one bundle, s 1

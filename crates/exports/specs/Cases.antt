@@ -10,10 +10,9 @@ use Rattle.reading.specs.declared.Start.{Start}
 use Rattle.reading.specs.declared.TraceRecord.{TraceRecord}
 use Rattle.reading.specs.declared.ScheduleRecord.{ScheduleRecord}
 use Rattle.records.specs.declared.write.Written.{Written}
-use Rattle.layers.specs.Questions.{PossibleTold}
+use Rattle.layers.specs.Questions.{Verdict, refusedWith, possibleSet, countDiffers, brokenAt, verdictOf, PossibleTold}
 use Rattle.layers.specs.declared.LayersRun.{LayersRun}
 use Rattle.layers.specs.declared.PossibleAnswer.{PossibleAnswer}
-use Rattle.layers.specs.declared.PossibleAnswer.the-variants.{Yes, CountDiffers, BrokenAt, Refused}
 use Rattle.exports.specs.Fields.{wroteFields}
 
 -- what stands at an offset of a file
@@ -39,11 +38,14 @@ abbrev pub writtenFields : Written → List ℕ
 writtenFields r = wroteFields (writtenNumbers r)
 
 -- whether a set is possible
+abbrev pub verdictFields : Verdict → List ℕ
+verdictFields (refusedWith number) = 0 ∷ number ∷ []
+verdictFields possibleSet = 1 ∷ 0 ∷ []
+verdictFields countDiffers = 2 ∷ 0 ∷ []
+verdictFields (brokenAt layer) = 3 ∷ layer ∷ []
+
 abbrev pub possibleFields : PossibleAnswer → List ℕ
-possibleFields (Refused number) = 0 ∷ number ∷ []
-possibleFields Yes = 1 ∷ 0 ∷ []
-possibleFields CountDiffers = 2 ∷ 0 ∷ []
-possibleFields (BrokenAt i) = 3 ∷ i ∷ []
+possibleFields r = verdictFields (verdictOf r)
 
 -- an answer that the question may give is stored
 pub record PossibleStored (run : LayersRun) (pages numbers set before after : List ℕ) : Type 0 where

@@ -2,7 +2,7 @@
 use Prim.Native.Nat.{ℕ, zero, suc, _+_, _-_, _≤_, _<_}
 use native.Mathlib.Numerals.{add-one}
 use native.Mathlib.Omega.{arith}
-use mathlib.Core.Bool.{Bool, true, false, not}
+use mathlib.Core.Bool.{Bool, true, false, not, true≢false}
 use mathlib.Core.List.{List, [], _∷_, map}
 use mathlib.Core.Path.{_≡_, refl, sym, ap, _∙_}
 use lib.Dec.{eqb, leb, ltb, leb·suc-suc}
@@ -19,7 +19,7 @@ use Rattle.paging.specs.Table.{numberIn, sizeOf, revealed}
 use Rattle.paging.proofs.Table.{numberIn-aboveZero}
 use Rattle.layers.specs.Calls.{stateRefusal}
 use Rattle.layers.specs.Formed.{noneAbove}
-use Rattle.layers.specs.Questions.{revealedReply, RevealedTold, layersIn, possibleRefusal, verdict, PossibleTold}
+use Rattle.layers.specs.Questions.{revealedReply, RevealedTold, layersIn, Verdict, refusedWith, possibleSet, countDiffers, brokenAt, verdictOf, possibleRefusal, verdict, PossibleTold}
 use Rattle.layers.specs.declared.LayersRun.{LayersRun}
 use Rattle.layers.specs.declared.PossibleAnswer.{PossibleAnswer}
 use Rattle.layers.specs.declared.PossibleAnswer.the-variants.{Yes, CountDiffers, BrokenAt, Refused}
@@ -190,26 +190,29 @@ holds-not L set (suc s) i h g =
 
 -- the answers
 
-not-broken-refused {ℓ} : {A : Type ℓ} (number i : ℕ) → Refused number ≡ BrokenAt i → A
-not-broken-refused number i q = let z : _≡_ {A = ℕ} 0 1 = cc in absurd (omega arith)
+abbrev namesLayer : Verdict → Bool
+namesLayer (refusedWith number) = false
+namesLayer possibleSet = false
+namesLayer countDiffers = false
+namesLayer (brokenAt layer) = true
 
-not-broken-differs {ℓ} : {A : Type ℓ} (i : ℕ) → CountDiffers ≡ BrokenAt i → A
-not-broken-differs i q = let z : _≡_ {A = ℕ} 0 1 = cc in absurd (omega arith)
-
-not-broken-yes {ℓ} : {A : Type ℓ} (i : ℕ) → Yes ≡ BrokenAt i → A
-not-broken-yes i q = let z : _≡_ {A = ℕ} 0 1 = cc in absurd (omega arith)
+-- the verdict without a layer
+told-at-none : (run : LayersRun) (pages numbers set : List ℕ) (r : PossibleAnswer) → namesLayer (verdictOf r) ≡ false
+    → verdictOf r ≡ verdict run pages numbers set 0 → PossibleTold run pages numbers set r
+told-at-none run pages numbers set r none e =
+    record { layer = 0; verdict-told = e; layer-told = λ q. absurd (true≢false (sym (ap namesLayer q) ∙ none)) }
 
 pub possible-refused : (run : LayersRun) (pages numbers set : List ℕ) (number : ℕ) → number ≡ stateRefusal run pages numbers 0 → (number ≡ 0 → ⊥)
     → PossibleTold run pages numbers set (Refused number)
 unfolding verdict possibleRefusal
 possible-refused run pages numbers set number e n =
-    record { verdict-told = rw (state-fall run pages numbers number e n (refuse (not (distinct set)) 11 0), ne-eqb number 0 n); layer-told = λ i q. not-broken-refused number i q }
+    told-at-none run pages numbers set (Refused number) refl (rw (state-fall run pages numbers number e n (refuse (not (distinct set)) 11 0), ne-eqb number 0 n))
 
 module _ (run : LayersRun) (pages numbers set : List ℕ) (r : StateReady run pages numbers) where
   pub possible-twice : distinct set ≡ false → PossibleTold run pages numbers set (Refused 11)
   unfolding verdict possibleRefusal
   possible-twice e =
-      record { verdict-told = rw (state-pass run pages numbers r (refuse (not (distinct set)) 11 0), e); layer-told = λ i q. not-broken-refused 11 i q }
+      told-at-none run pages numbers set (Refused 11) refl (rw (state-pass run pages numbers r (refuse (not (distinct set)) 11 0), e))
 
   module _ (e : distinct set ≡ true) where
     taken : possibleRefusal run pages numbers set ≡ 0
@@ -218,21 +221,18 @@ module _ (run : LayersRun) (pages numbers set : List ℕ) (r : StateReady run pa
 
     pub possible-differs : (length set ≡ run .s → ⊥) → PossibleTold run pages numbers set CountDiffers
     unfolding verdict
-    possible-differs n = record { verdict-told = rw (taken, ne-eqb (length set) (run .s) n); layer-told = λ i q. not-broken-differs i q }
+    possible-differs n = told-at-none run pages numbers set CountDiffers refl (rw (taken, ne-eqb (length set) (run .s) n))
 
     pub possible-walked : (sizes : List ℕ) (answer : PossibleAnswer) → length set ≡ run .s → run .s ≤ 256 → Tallied (map (numberIn (rowsOf numbers pages)) set) sizes
         → Walked (run .s) sizes answer → PossibleTold run pages numbers set answer
     unfolding verdict
     possible-walked sizes Yes l h t w =
         let all = holds-all (layersIn run (rowsOf numbers pages)) set (run .s) (λ j g. let low = w j g in omega (arith, upto-is run (rowsOf numbers pages) set sizes t j (omega arith))) in
-        record { verdict-told = rw (taken, eq-eqb (length set) (run .s) l, all); layer-told = λ i q. not-broken-yes i q }
+        told-at-none run pages numbers set Yes refl (rw (taken, eq-eqb (length set) (run .s) l, all))
     possible-walked sizes (BrokenAt i) l h t w =
         let low = w .0 in
         let more : i < upTo (layersIn run (rowsOf numbers pages)) i set = let high = w .1 in omega (arith, upto-is run (rowsOf numbers pages) set sizes t i (omega arith)) in
         let bad = holds-not (layersIn run (rowsOf numbers pages)) set (run .s) i low more in
-        record {
-          verdict-told = rw (taken, eq-eqb (length set) (run .s) l, bad);
-          layer-told = λ j q. let same : i ≡ j = cc in rw (← same) (low, lt-ltb i _ more);
-        }
+        record { layer = i; verdict-told = rw (taken, eq-eqb (length set) (run .s) l, bad); layer-told = λ q. (low, lt-ltb i _ more) }
     possible-walked sizes CountDiffers l h t w = absurd w
     possible-walked sizes (Refused number) l h t w = absurd w

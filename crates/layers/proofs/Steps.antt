@@ -23,7 +23,7 @@ use Rattle.paging.proofs.Rows.{rows-back}
 use Rattle.paging.proofs.Table.{tabled-map, tabled-top, tabled-joins, tabled-snoc}
 use Rattle.layers.specs.Calls.{emptyRun, stateRefusal, rowsNext, ruleNext, runNext, requestRefusal, requestReply, tableNext, pagesNext, numbersNext}
 use Rattle.layers.specs.Formed.{layersWellFormed, isUnused}
-use Rattle.layers.specs.Questions.{layersIn, Verdict, possibleSet, countDiffers, broken, refusedWith, verdictOf, judged, possibleRefusal, verdict, PossibleTold}
+use Rattle.layers.specs.Questions.{layersIn, Verdict, possibleSet, countDiffers, brokenAt, refusedWith, verdictOf, judged, possibleRefusal, verdict, PossibleTold}
 use Rattle.layers.specs.Traces.{overflows, allUnused, traceTotals, pagesOver, numbersOver, overRefusal, earlyRefusal}
 use Rattle.layers.specs.declared.LayersRun.{LayersRun}
 use Rattle.layers.specs.declared.PossibleAnswer.{PossibleAnswer}
@@ -255,30 +255,25 @@ module _ (k a : ℕ) (trace : List ℕ) (run : LayersRun) (pages numbers : List 
   layers-agree = λ i. record { of = λ q. map-agrees q i; top = ap (λ r. r .s) (S .run-is) i }
 
   -- a set without repeats is judged by the layers of the trace
-  pub verdict-agrees : (set : List ℕ) → distinct set ≡ true → verdict run pages numbers set ≡ judged (layersAfter k a trace noLayers) set
-  verdict-agrees set d = unfold verdict possibleRefusal in
+  pub verdict-agrees : (set : List ℕ) (layer : ℕ) → distinct set ≡ true
+      → verdict run pages numbers set layer ≡ judged (layersAfter k a trace noLayers) set layer
+  verdict-agrees set layer d = unfold verdict possibleRefusal in
       rw (never-ill-formed k a trace run pages numbers S (refuse (not (distinct set)) 11 0), d)
-      (ap (λ L. judged L set) layers-agree)
+      (ap (λ L. judged L set layer) layers-agree)
 
 abbrev isPossible : Verdict → Bool
 isPossible (refusedWith number) = false
 isPossible possibleSet = true
 isPossible countDiffers = false
-isPossible broken = false
+isPossible (brokenAt layer) = false
 
-judged-possible : (L : Layers) (set : List ℕ) → isPossible (judged L set) ≡ possible L set
-judged-possible L set = one (eqb (length set) (L .top)) (holdsUpTo L set (L .top))
+judged-possible : (L : Layers) (set : List ℕ) (layer : ℕ) → isPossible (judged L set layer) ≡ possible L set
+judged-possible L set layer = one (eqb (length set) (L .top)) (holdsUpTo L set (L .top))
   where
-    one : (b c : Bool) → isPossible (pick b (pick c possibleSet broken) countDiffers) ≡ b and c
+    one : (b c : Bool) → isPossible (pick b (pick c possibleSet (brokenAt layer)) countDiffers) ≡ b and c
     one true true = unfold _and_ in refl
     one true false = unfold _and_ in refl
     one false c = unfold _and_ in refl
-
-only-possible : (v : Verdict) → isPossible v ≡ true → v ≡ possibleSet
-only-possible (refusedWith number) e = absurd (false≢true e)
-only-possible possibleSet e = refl
-only-possible countDiffers e = absurd (false≢true e)
-only-possible broken e = absurd (false≢true e)
 
 only-yes : (r : PossibleAnswer) → isPossible (verdictOf r) ≡ true → r ≡ Yes
 only-yes Yes e = refl
@@ -287,22 +282,16 @@ only-yes (BrokenAt i) e = absurd (false≢true e)
 only-yes (Refused number) e = absurd (false≢true e)
 
 module _ (k a : ℕ) (trace : List ℕ) (run : LayersRun) (pages numbers : List ℕ) (S : Stands k a trace run pages numbers) (set : List ℕ) (d : distinct set ≡ true) where
-  told : isPossible (verdict run pages numbers set) ≡ possible (layersAfter k a trace noLayers) set
-  told =
-      ap isPossible (verdict-agrees k a trace run pages numbers S set d) ∙ judged-possible (layersAfter k a trace noLayers) set
+  told : (layer : ℕ) → isPossible (verdict run pages numbers set layer) ≡ possible (layersAfter k a trace noLayers) set
+  told layer =
+      ap isPossible (verdict-agrees k a trace run pages numbers S set layer d) ∙ judged-possible (layersAfter k a trace noLayers) set layer
 
-  -- a set without repeats is judged possible exactly if it is possible by the layers of the trace
-  pub possible-agrees :
-      (verdict run pages numbers set ≡ possibleSet → possible (layersAfter k a trace noLayers) set ≡ true)
-      × (possible (layersAfter k a trace noLayers) set ≡ true → verdict run pages numbers set ≡ possibleSet)
-  possible-agrees = (λ e. sym told ∙ ap isPossible e, λ e. only-possible (verdict run pages numbers set) (told ∙ e))
-
-  -- an answer that keeps the promise of the question is Yes exactly then
+  -- an answer that keeps the promise of the question is Yes exactly if the set is possible by the layers of the trace
   pub yes-exactly : (r : PossibleAnswer) → PossibleTold run pages numbers set r
       → (r ≡ Yes → possible (layersAfter k a trace noLayers) set ≡ true) × (possible (layersAfter k a trace noLayers) set ≡ true → r ≡ Yes)
   yes-exactly r P = (
-    λ e. sym told ∙ sym (ap isPossible (P .verdict-told)) ∙ ap (λ z. isPossible (verdictOf z)) e,
-    λ e. only-yes r (ap isPossible (P .verdict-told) ∙ told ∙ e),
+    λ e. sym (told (P .layer)) ∙ sym (ap isPossible (P .verdict-told)) ∙ ap (λ z. isPossible (verdictOf z)) e,
+    λ e. only-yes r (ap isPossible (P .verdict-told) ∙ told (P .layer) ∙ e),
   )
 
 -- The call over a whole trace

@@ -50,32 +50,34 @@ layersIn run rows = record { of = numberIn (usedRows rows); top = run .s }
 
 -- the answers that document 01 names: a refusal's number, "yes", "count differs", or a layer at which the rule breaks
 pub data Verdict : Type 0 where
-  refusedWith : ℕ → Verdict
+  refusedWith : (number : ℕ) → Verdict
   possibleSet : Verdict
   countDiffers : Verdict
-  broken : Verdict
+  brokenAt : (layer : ℕ) → Verdict
 
 -- what each case of the enum says
 abbrev pub verdictOf : PossibleAnswer → Verdict
 verdictOf Yes = possibleSet
 verdictOf CountDiffers = countDiffers
-verdictOf (BrokenAt i) = broken
+verdictOf (BrokenAt i) = brokenAt i
 verdictOf (Refused number) = refusedWith number
 
--- the verdict on a set that is not refused: the count is looked at first
-abbrev pub judged : Layers → (set : List ℕ) → Verdict
-judged L set = pick (eqb (length set) (L .top)) (pick (holdsUpTo L set (L .top)) possibleSet broken) countDiffers
+-- the verdict on a set that is not refused: the count is looked at first. `layer` is the one that a "no" names
+abbrev pub judged : Layers → (set : List ℕ) → (layer : ℕ) → Verdict
+judged L set layer = pick (eqb (length set) (L .top)) (pick (holdsUpTo L set (L .top)) possibleSet (brokenAt layer)) countDiffers
 
 -- the refusals of the question, in order; 11 where the set names a page twice
 unfoldable pub possibleRefusal : LayersRun → (pages numbers set : List ℕ) → ℕ
 possibleRefusal run pages numbers set = stateRefusal run pages numbers (refuse (not (distinct set)) 11 0)
 
-unfoldable pub verdict : LayersRun → (pages numbers set : List ℕ) → Verdict
-verdict run pages numbers set =
+unfoldable pub verdict : LayersRun → (pages numbers set : List ℕ) → (layer : ℕ) → Verdict
+verdict run pages numbers set layer =
     let number = possibleRefusal run pages numbers set in
-    pick (eqb number 0) (judged (layersIn run (rowsOf numbers pages)) set) (refusedWith number)
+    pick (eqb number 0) (judged (layersIn run (rowsOf numbers pages)) set layer) (refusedWith number)
 
--- the promise of the question: the verdict; the layer of a "no" is left free, as long as it is from 0 to s and the rule breaks at it
+-- the promise of the question: the verdict, where the layer that a "no" names is left free, as long as it is from 0 to s and the rule
+-- breaks at it
 pub record PossibleTold (run : LayersRun) (pages numbers set : List ℕ) (r : PossibleAnswer) : Type 0 where
-  pub verdict-told : verdictOf r ≡ verdict run pages numbers set
-  pub layer-told : (i : ℕ) → r ≡ BrokenAt i → (i ≤ run .s) × (breaksAt (layersIn run (rowsOf numbers pages)) set i ≡ true)
+  pub layer : ℕ
+  pub verdict-told : verdictOf r ≡ verdict run pages numbers set layer
+  pub layer-told : verdictOf r ≡ brokenAt layer → (layer ≤ run .s) × (breaksAt (layersIn run (rowsOf numbers pages)) set layer ≡ true)
