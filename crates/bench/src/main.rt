@@ -42,7 +42,7 @@ fn figures(r: Report) {
 }
 
 fn main() {
-    let mut input = [0u8; 24588];
+    let mut input = [0u8; Report::INPUT];
     let n = io::read_full(0, &mut input);
     let r = report::of_input(&input[..n]);
     if r.refusal != 0 {

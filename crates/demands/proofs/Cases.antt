@@ -5,7 +5,7 @@ use Rattle.lists.specs.Choice.{_and_, _or_}
 use Rattle.lists.specs.Sorting.{rowBefore}
 use Rattle.paging.specs.Min.{farther}
 use Rattle.paging.specs.Refusals.{sizesRefusal, traceRefusal}
-use Rattle.paging.proofs.Same.{samePages, sameEntries}
+use Rattle.paging.specs.Same.{samePages, sameEntries}
 use Rattle.records.specs.Marks.{markOf, markAt}
 use Rattle.reading.specs.Files.{requestsFrom}
 use Rattle.reading.specs.Reading.{kaRead, rqRead, readTrace}

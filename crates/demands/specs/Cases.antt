@@ -9,7 +9,7 @@ use Rattle.lists.specs.Choice.{_and_}
 use Rattle.paging.specs.Layers.{breaksAt}
 use Rattle.paging.specs.Rows.{rowsOf}
 use Rattle.paging.specs.Schedule.{Entry, ev}
-use Rattle.paging.proofs.Same.{samePages, sameEntries, shift}
+use Rattle.paging.specs.Same.{samePages, sameEntries, shift}
 use Rattle.records.specs.Bytes.{traceBytes}
 use Rattle.lru.specs.Calls as lru
 use Rattle.lru.specs.Standing.{Call, State, afterCalls, emptyState}

@@ -9,7 +9,7 @@ use lib.ListN.{length, replicate}
 use Rattle.lists.specs.Choice.{_and_, _or_}
 use Rattle.paging.specs.Min.{farther}
 use Rattle.paging.specs.Refusals.{sizesRefusal, traceRefusal}
-use Rattle.paging.proofs.Same.{samePages, every, shift}
+use Rattle.paging.specs.Same.{samePages, every, shift}
 use Rattle.min.specs.Calls.{minSchedule, bytesRefusal, scheduleRefusal}
 
 -- KA 3 2; EV at 3 of 3, 1; EV at 6 of 2, 4

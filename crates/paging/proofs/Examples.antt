@@ -15,7 +15,7 @@ use Rattle.paging.specs.Policy.{bundles, bundleCount, loadCount}
 use Rattle.paging.specs.Rows.{pagesOf, numbersOf}
 use Rattle.paging.specs.Schedule.{Entry, ev, pf, serves, entriesCost}
 use Rattle.paging.specs.Table.{revealed, Tabled, nothingYet, tabledAfter}
-use Rattle.paging.proofs.Same.{samePages, sameEntries, every, shift}
+use Rattle.paging.specs.Same.{samePages, sameEntries, every, shift}
 
 table : (k a : ℕ) → List ℕ → Tabled
 table k a trace = tabledAfter k a trace nothingYet

@@ -1,4 +1,3 @@
-pub mod Same
 pub mod Examples
 pub mod Runs
 pub mod Refusals

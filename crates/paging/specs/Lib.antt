@@ -6,3 +6,4 @@ pub mod Min
 pub mod Layers
 pub mod Table
 pub mod Rows
+pub mod Same

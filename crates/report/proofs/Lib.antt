@@ -1,2 +1,3 @@
 mod ReadingLaws
 mod FiguresLaws
+pub mod Prefix

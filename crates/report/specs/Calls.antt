@@ -1,7 +1,8 @@
 -- What the bench says of an input (document 01, "The eight-request shift"): the numbers of its four lines, or a refusal's number with
 -- zeros beside it.
-use Prim.Native.Nat.{ℕ}
-use mathlib.Core.List.{List}
+use Prim.Native.Nat.{ℕ, _+_, _*_, _≤_}
+use mathlib.Core.List.{List, _++_}
+use mathlib.Core.Path.{_≡_}
 use lib.ListN.{length}
 use Rattle.paging.specs.Layers.{joinCount, layersAfter, noLayers}
 use Rattle.paging.specs.Lru.{lruRule}
@@ -53,5 +54,16 @@ reported (whole k a pages) = figures k a pages
 reported (damaged number) = refusedReport number
 
 -- the bench takes 4,096 requests
+abbrev pub mostRequests : ℕ
+mostRequests = 4096
+
 unfoldable pub reportOf : List ℕ → Report
-reportOf input = reported (traceFile 4096 input)
+reportOf input = reported (traceFile mostRequests input)
+
+-- the bytes in which a request too many is seen whole: a KA, and one RQ more than the bench takes
+abbrev pub inputBytes : ℕ
+inputBytes = 6 + 6 * (mostRequests + 1)
+
+-- so many bytes of an input are enough: whatever follows them, the report is the same
+abbrev pub ReadEnough : (bytes : ℕ) → (input : List ℕ) → Report → Type 0
+ReadEnough bytes input report = bytes ≤ length input → (more : List ℕ) → report ≡ reportOf (input ++ more)

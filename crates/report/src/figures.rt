@@ -3,20 +3,20 @@ ghost use Prim.Native.Nat.{_≤_};
 ghost use mathlib.Core.Path.{_≡_};
 ghost use lib.ListN.{length};
 ghost use Rattle.paging.specs.Refusals.{SizesRight};
-ghost use Rattle.report.specs.Calls.{figures};
+ghost use Rattle.report.specs.Calls.{figures, mostRequests};
 use crate::LayersFigures;
 use crate::PolicyFigures;
 use crate::Report;
 
 // The sizes are right and the trace is short enough: nothing is refused, and the table has a place for each request.
 pub(crate) fn of(k: u32, a: u32, trace: &[u32]) -> Report
-    requires { ⌜ SizesRight k a × (length (now trace) ≤ 4096) ⌝ }
+    requires { ⌜ SizesRight k a × (length (now trace) ≤ mostRequests) ⌝ }
     ensures { λ r. ⌜ r ≡ figures k a (now (trace .entry)) ⌝ }
 {
     let least = min::count(k, a, trace);
     let recent = lru::over_trace(k, a, trace);
-    let mut pages = [0u32; 4096];
-    let mut numbers = [0u32; 4096];
+    let mut pages = [0u32; Report::LONGEST];
+    let mut numbers = [0u32; Report::LONGEST];
     let layered = layers::over_trace(k, a, trace, &mut pages, &mut numbers);
     let min = PolicyFigures {
         bundles: least.bundles,

@@ -1,6 +1,6 @@
 // The bench's figures for an input (document 01, "The eight-request shift"): one function on the input's bytes.
 ghost use mathlib.Core.Path.{_≡_};
-ghost use Rattle.report.specs.Calls.{reportOf, refusedReport};
+ghost use Rattle.report.specs.Calls.{reportOf, refusedReport, ReadEnough};
 
 mod figures;
 mod input;
@@ -34,7 +34,7 @@ impl Report {
     pub const LONGEST: usize = 4096;
 
     // The bytes in which a request too many is seen whole: a KA and one RQ more than the bench takes.
-    pub const INPUT: usize = 24588;
+    pub const INPUT: usize = 6 + 6 * (Report::LONGEST + 1);
 
     // A refusal.
     pub fn refused(number: u32) -> Report
@@ -65,11 +65,12 @@ impl Report {
     }
 }
 
-// What the bench says of a trace file.
+// What the bench says of a trace file. An input that has `INPUT` bytes need not be read further: whatever follows, the report is the same.
 pub fn of_input(input: &[u8]) -> Report
     ensures { λ r. ⌜ r ≡ reportOf (now (input .entry)) ⌝ }
+    ensures { λ r. do ⌜ ReadEnough (← ⟦Report::INPUT⟧ .entry) (now (input .entry)) r ⌝ }
 {
-    let mut pages = [0u32; 4096];
+    let mut pages = [0u32; Report::LONGEST];
     let read = input::trace(input, &mut pages);
     if read.refusal != 0 {
         return Report::refused(read.refusal);
