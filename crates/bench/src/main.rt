@@ -1,53 +1,45 @@
 // The bench (document 01, "The eight-request shift"): reads a trace on standard input and prints four lines, or `refused` and a number.
 // All that matters is in the crate `report`.
 use report::Report;
+use streams::Output;
 
-const OUT: i32 = 1;
-
-// A space and a number.
-fn field(n: u32) {
-    io::write_all(OUT, b" ");
-    io::print_decimal(OUT, n as u64);
+fn refused(out: Output, number: u32) {
+    out.text(b"refused").field(number).end_line();
 }
 
-fn end_line() {
-    io::write_all(OUT, b"\n");
+fn figures(out: Output, r: Report) {
+    let out = out.text(b"trace")
+        .field(r.k)
+        .field(r.a)
+        .field(r.requests)
+        .end_line();
+    let out = out.text(b"min")
+        .field(r.min.bundles)
+        .field(r.min.loads)
+        .end_line();
+    let out = out.text(b"lru")
+        .field(r.lru.bundles)
+        .field(r.lru.loads)
+        .end_line();
+    out.text(b"layers")
+        .field(r.layers.bundles)
+        .field(r.layers.s)
+        .field(r.layers.revealed)
+        .end_line();
 }
 
-fn refused(number: u32) {
-    io::write_all(OUT, b"refused");
-    field(number);
-    end_line();
-}
-
-fn figures(r: Report) {
-    io::write_all(OUT, b"trace");
-    field(r.k);
-    field(r.a);
-    field(r.requests);
-    end_line();
-    io::write_all(OUT, b"min");
-    field(r.min.bundles);
-    field(r.min.loads);
-    end_line();
-    io::write_all(OUT, b"lru");
-    field(r.lru.bundles);
-    field(r.lru.loads);
-    end_line();
-    io::write_all(OUT, b"layers");
-    field(r.layers.bundles);
-    field(r.layers.s);
-    field(r.layers.revealed);
-    end_line();
-}
-
+// Where the input cannot be read, nothing is printed: figures of a part would be wrong.
 fn main() {
     let mut input = [0u8; Report::INPUT];
-    let n = io::read_full(0, &mut input);
+    let read = streams::read(&mut input);
+    if read.failed {
+        return;
+    }
+    let n = read.bytes;
     let r = report::of_input(&input[..n]);
     if r.refusal != 0 {
-        refused(r.refusal);
+        refused(Output::new(), r.refusal);
     } else {
-        figures(r);
+        figures(Output::new(), r);
     }
 }
