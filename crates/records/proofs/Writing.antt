@@ -6,11 +6,12 @@ use native.Mathlib.Omega.{arith}
 use mathlib.Core.Bool.{Bool, true, false}
 use mathlib.Core.List.{List, [], _∷_, _++_, append-assoc, append-nil}
 use mathlib.Core.Path.{_≡_, refl, sym, ap, _∙_}
-use lib.Dec.{ltb}
+use lib.Dec.{eqb, ltb}
 use lib.ListN.{length, drop, take, getD, length-drop, length-take, length-append, take-append-drop, drop-of-length-le}
 use lib.Seq.{drop-drop, take-all, take-suc}
 use borrow.Author.Tests.{lt-ltb, le-ltb, eq-eqb, ne-eqb, ltb-false}
 use Rattle.lists.specs.Choice.{pick, _or_}
+use Rattle.lists.proofs.Choice.{tests, or-none-l, or-none-r}
 use Rattle.paging.specs.Refusals.{refuse}
 use Rattle.wire.specs.Numbers.{bytes32, allBytes32, placed}
 use Rattle.wire.proofs.Numbers.{placed-join, length-placed, length-allBytes32}
@@ -122,6 +123,13 @@ module _ (n : ℕ) where
   pub pages-fine : (n ≡ 0 → ⊥) → n ≤ 256 → pagesRefused n ≡ false
   unfolding pagesRefused _or_
   pages-fine z h = rw (ne-eqb n 0 z, le-ltb 256 n h)
+
+  pub pages-within : pagesRefused n ≡ false → (0 < n) × (n ≤ 256)
+  unfolding pagesRefused
+  pages-within e =
+      let some : eqb n 0 ≡ false = or-none-l _ _ e in
+      let few : ltb 256 n ≡ false = or-none-r _ _ e in
+      (omega tests, omega tests)
 
 -- ---- the rest of the lent bytes comes back into the whole
 
