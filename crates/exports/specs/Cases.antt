@@ -1,10 +1,12 @@
--- The fields of each answer that is an enum: the number of its case first, 0 for a refusal, then what the case holds, then zeros.
+-- The fields of each answer that is an enum: the number of its case first, 0 for a refusal, then what the case holds, then zeros. A writer's
+-- answer starts with the refusal's number instead, 0 for none, as an answer that is a record does.
 use Prim.Native.Nat.{ℕ}
 use mathlib.Core.Path.{_≡_}
 use mathlib.Core.List.{List, [], _∷_}
 use Rattle.lists.specs.Places.{pasted}
 use Rattle.reading.specs.Reading.{Answer, refused, ended, sizes, request, bundle, fetch}
-use Rattle.records.specs.Answers.{writtenNumbers}
+use Rattle.records.specs.Answers.{writtenAnswer}
+use Rattle.records.specs.Writing as writing
 use Rattle.reading.specs.Answers.{startAnswer, traceAnswer, scheduleAnswer}
 use Rattle.reading.specs.declared.Start.{Start}
 use Rattle.reading.specs.declared.TraceRecord.{TraceRecord}
@@ -13,7 +15,6 @@ use Rattle.records.specs.declared.write.Written.{Written}
 use Rattle.layers.specs.Questions.{Verdict, refusedWith, possibleSet, countDiffers, brokenAt, verdictOf, PossibleTold}
 use Rattle.layers.specs.declared.LayersRun.{LayersRun}
 use Rattle.layers.specs.declared.PossibleAnswer.{PossibleAnswer}
-use Rattle.exports.specs.Fields.{wroteFields}
 
 -- what stands at an offset of a file
 abbrev pub answerFields : Answer → List ℕ
@@ -33,9 +34,13 @@ traceFields r = answerFields (traceAnswer r)
 abbrev pub scheduleFields : ScheduleRecord → List ℕ
 scheduleFields r = answerFields (scheduleAnswer r)
 
--- a writer's answer is a record to its definition, which has the refusal and the offset behind the record
+-- what a writer answers is as short as a record: the refusal's number, 0 for none, and the offset behind the record
+abbrev pub wroteFields : writing.Wrote → List ℕ
+wroteFields (writing.stored next) = 0 ∷ next ∷ []
+wroteFields (writing.refused number) = number ∷ 0 ∷ []
+
 abbrev pub writtenFields : Written → List ℕ
-writtenFields r = wroteFields (writtenNumbers r)
+writtenFields r = wroteFields (writtenAnswer r)
 
 -- whether a set is possible
 abbrev pub verdictFields : Verdict → List ℕ

@@ -1,7 +1,6 @@
 -- The fields of each answer that is a record, in the order in which a caller receives them: the refusal's number first, 0 for none.
 use Prim.Native.Nat.{ℕ}
 use mathlib.Core.List.{List, [], _∷_}
-use Rattle.records.specs.Writing.{Wrote}
 use Rattle.lru.specs.declared.Reply.{Reply}
 use Rattle.lru.specs.declared.Totals.{Totals}
 use Rattle.min.specs.declared.Counts.{Counts}
@@ -31,6 +30,3 @@ revealedFields r = r .refusal ∷ r .count ∷ []
 
 abbrev pub layersTotalsFields : LayersTotals → List ℕ
 layersTotalsFields r = r .refusal ∷ r .bundles ∷ r .s ∷ r .revealed ∷ []
-
-abbrev pub wroteFields : Wrote → List ℕ
-wroteFields r = r .refusal ∷ r .next ∷ []

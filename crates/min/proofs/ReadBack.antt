@@ -18,8 +18,7 @@ use Rattle.paging.specs.Schedule.{ev, entriesCost}
 use Rattle.paging.proofs.Runs.{kind-of-cases, bundles-cost}
 use Rattle.records.specs.Bytes.{evBytes, entryBytes, joined, evLength, scheduleBytes, AllWritable}
 use Rattle.records.proofs.Lengths.{length-evBytes}
-use Rattle.reading.specs.Files.{entriesFrom}
-use Rattle.reading.specs.Reading.{sizes, readSchedule}
+use Rattle.reading.specs.Files.{ReadsAsSchedule}
 use Rattle.reading.proofs.RoundTrip.{schedule-reads-back}
 use Rattle.min.specs.Calls.{minSchedule}
 
@@ -28,12 +27,12 @@ bundle-many : (k a : ℕ) (later held : List ℕ) → a ≤ k → k ≤ length h
 bundle-many k a later held h g = length-take-le a (sortBy (farther later) held) (omega (arith, length-sort (farther later) held))
 
 -- MIN's bundles, from any buffer
-module _ (k a : ℕ) (pos : 0 < a) (fits : a ≤ k) (small : a ≤ 256) where
-  pub bundles-writable : (t : ℕ) (trace later held : List ℕ) → AllWritable a (bundles (minRule a) k t trace later held)
+module _ (bound k a : ℕ) (pos : 0 < a) (fits : a ≤ k) (within : a ≤ bound) (small : a ≤ 256) where
+  pub bundles-writable : (t : ℕ) (trace later held : List ℕ) → AllWritable bound (bundles (minRule a) k t trace later held)
   bundles-writable t [] later held = tt
   bundles-writable t (p ∷ ps) later held =
       kind-of-cases
-      (λ kind. AllWritable a
+      (λ kind. AllWritable bound
       (pick (isBundled kind) (ev t (minRule a (ps ++ later) held) ∷ bundles (minRule a) k (suc t) ps later (serve (minRule a) k p (ps ++ later) held))
       (bundles (minRule a) k (suc t) ps later (serve (minRule a) k p (ps ++ later) held))))
       k p held
@@ -78,11 +77,11 @@ schedule-long k a trace h =
     let s : length (scheduleBytes k a (bundles (minRule a) k 0 trace [] [])) ≡ 6 + length (joined entryBytes (bundles (minRule a) k 0 trace [] [])) = omega arith in
     s ∙ ap (λ (m : ℕ). 6 + m) l
 
--- read back, the schedule is the KA and MIN's bundles, with no damage; so it is for a reader that bounds n by a
-pub min-reads-back : (k a : ℕ) (trace : List ℕ) → SizesRight k a
-    → (readSchedule a (minSchedule k a trace) 0 ≡ sizes k a 6)
-    × (entriesFrom a (minSchedule k a trace) 0 ≡ record { held = bundles (minRule a) k 0 trace [] []; damage = 0 })
+-- read back, the schedule is the KA and MIN's bundles, with no damage, for any bound on n from a on: the judge's is a, that of a reader without an a is 256
+pub min-reads-back : (bound k a : ℕ) (trace : List ℕ) → SizesRight k a → a ≤ bound
+    → ReadsAsSchedule bound k a (bundles (minRule a) k 0 trace [] []) (minSchedule k a trace)
 unfolding minSchedule
-min-reads-back k a trace right =
+min-reads-back bound k a trace right within =
     let small = right .k-high in
-    schedule-reads-back a k a (bundles (minRule a) k 0 trace [] []) right (bundles-writable k a (right .a-low) (right .a-high) (omega arith) 0 trace [] [])
+    let writable = bundles-writable bound k a (right .a-low) (right .a-high) within (omega arith) 0 trace [] [] in
+    schedule-reads-back bound k a (bundles (minRule a) k 0 trace [] []) right writable

@@ -4,3 +4,4 @@ pub mod Walk
 pub mod RoundTrip
 pub mod Exact
 pub mod Numbers
+pub mod WriterCalls

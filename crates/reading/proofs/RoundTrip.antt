@@ -15,7 +15,7 @@ use Rattle.wire.proofs.Numbers.{num16-bytes16, num32-bytes32, nums32-allBytes32
 use Rattle.records.specs.Bytes.{kaBytes, rqBytes, evBytes, pfBytes, entryBytes, joined, traceBytes, scheduleBytes, evLength, Writable, AllWritable}
 use Rattle.records.specs.Marks.{KA, RQ, EV, PF, markOf, markAt, markKA, markRQ, markEV, markPF}
 use Rattle.records.proofs.Lengths.{length-evBytes}
-use Rattle.reading.specs.Files.{before, requestsFrom, entriesFrom}
+use Rattle.reading.specs.Files.{before, requestsFrom, entriesFrom, ReadsAsTrace, ReadsAsSchedule}
 use Rattle.reading.specs.Reading.{ended, sizes, request, bundle, fetch, kaRead, rqRead, entryRead, countRefused, readTrace, readSchedule}
 use Rattle.reading.proofs.Reading.{ka-taken, rq-taken, pf-taken, ev-taken, trace-first, trace-last, trace-later, schedule-first, schedule-last, schedule-later, count-fine}
 use Rattle.reading.proofs.Walk.{requests-sizes, requests-request, requests-ended, entries-sizes, entries-bundle, entries-fetch, entries-ended}
@@ -151,16 +151,14 @@ entries-back bound (pf t page ∷ entries) pre w h =
 -- ---- the theorems over whole files
 
 -- a trace's bytes read as KA, the pages in order, and the end
-pub trace-reads-back : (k a : ℕ) (pages : List ℕ) → SizesRight k a
-    → (readTrace (traceBytes k a pages) 0 ≡ sizes k a 6) × (requestsFrom (traceBytes k a pages) 0 ≡ record { held = pages; damage = 0 })
+pub trace-reads-back : (k a : ℕ) (pages : List ℕ) → SizesRight k a → ReadsAsTrace k a pages (traceBytes k a pages)
 trace-reads-back k a pages right =
     let first : readTrace (traceBytes k a pages) 0 ≡ sizes k a 6 = trace-ka k a (joined rqBytes pages) (sizes-taken k a right 0) in
     (first, requests-sizes (traceBytes k a pages) 0 k a 6 first ∙ requests-back pages (kaBytes k a) (omega arith))
 
 -- a schedule's bytes read as KA, the same entries in the same order with the same pages, and the end
 pub schedule-reads-back : (bound k a : ℕ) (entries : List Entry) → SizesRight k a → AllWritable bound entries
-    → (readSchedule bound (scheduleBytes k a entries) 0 ≡ sizes k a 6)
-    × (entriesFrom bound (scheduleBytes k a entries) 0 ≡ record { held = entries; damage = 0 })
+    → ReadsAsSchedule bound k a entries (scheduleBytes k a entries)
 schedule-reads-back bound k a entries right w =
     let first : readSchedule bound (scheduleBytes k a entries) 0 ≡ sizes k a 6
     = schedule-ka bound k a (joined entryBytes entries) (sizes-taken k a right 0) in

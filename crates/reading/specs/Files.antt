@@ -2,6 +2,7 @@
 -- It is the reader, stepped from offset to offset.
 use Prim.Native.Nat.{ℕ, zero, suc}
 use mathlib.Core.List.{List, [], _∷_, _++_}
+use mathlib.Core.Path.{_≡_}
 use lib.ListN.{length, drop}
 use Rattle.paging.specs.Schedule.{Entry, ev, pf}
 use Rattle.wire.specs.Numbers.{nums32}
@@ -55,3 +56,10 @@ entriesIn s (request page next) = []
 
 unfoldable pub entriesFrom : ℕ → List ℕ → ℕ → File Entry
 entriesFrom bound s at = walk (readSchedule bound s) (entriesIn s) (suc (length s)) at
+
+-- a file reads as a KA and these pages or entries, and has no damage
+abbrev pub ReadsAsTrace : (k a : ℕ) → (pages s : List ℕ) → Type 0
+ReadsAsTrace k a pages s = (readTrace s 0 ≡ sizes k a 6) × (requestsFrom s 0 ≡ record { held = pages; damage = 0 })
+
+abbrev pub ReadsAsSchedule : (bound k a : ℕ) → List Entry → (s : List ℕ) → Type 0
+ReadsAsSchedule bound k a entries s = (readSchedule bound s 0 ≡ sizes k a 6) × (entriesFrom bound s 0 ≡ record { held = entries; damage = 0 })

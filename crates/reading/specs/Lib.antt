@@ -1,3 +1,4 @@
 pub mod Reading
 pub mod Files
 pub mod Answers
+pub mod WriterCalls

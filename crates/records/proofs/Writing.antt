@@ -6,15 +6,16 @@ use native.Mathlib.Omega.{arith}
 use mathlib.Core.Bool.{Bool, true, false}
 use mathlib.Core.List.{List, [], _∷_, _++_, append-assoc, append-nil}
 use mathlib.Core.Path.{_≡_, refl, sym, ap, _∙_}
-use lib.Dec.{ltb}
+use lib.Dec.{eqb, ltb}
 use lib.ListN.{length, drop, take, getD, length-drop, length-take, length-append, take-append-drop, drop-of-length-le}
 use lib.Seq.{drop-drop, take-all, take-suc}
 use borrow.Author.Tests.{lt-ltb, le-ltb, eq-eqb, ne-eqb, ltb-false}
 use Rattle.lists.specs.Choice.{pick, _or_}
+use Rattle.lists.proofs.Choice.{tests, or-none-l, or-none-r}
 use Rattle.paging.specs.Refusals.{refuse}
 use Rattle.wire.specs.Numbers.{bytes32, allBytes32, placed}
 use Rattle.wire.proofs.Numbers.{placed-join, length-placed, length-allBytes32}
-use Rattle.records.specs.Writing.{Wrote, roomRefusal, pagesRefused, wrote, outAfter, putLength, putBytes}
+use Rattle.records.specs.Writing.{stored, refused, roomRefusal, pagesRefused, wrote, outAfter, putLength, putBytes}
 
 -- ---- stores one behind the other, from the start on
 
@@ -123,6 +124,13 @@ module _ (n : ℕ) where
   unfolding pagesRefused _or_
   pages-fine z h = rw (ne-eqb n 0 z, le-ltb 256 n h)
 
+  pub pages-within : pagesRefused n ≡ false → (0 < n) × (n ≤ 256)
+  unfolding pagesRefused
+  pages-within e =
+      let some : eqb n 0 ≡ false = or-none-l _ _ e in
+      let few : ltb 256 n ≡ false = or-none-r _ _ e in
+      (omega tests, omega tests)
+
 -- ---- the rest of the lent bytes comes back into the whole
 
 -- `part` is what the rest was lent as, `back` what the whole is when the rest comes back as `rest`
@@ -153,7 +161,7 @@ pick-zero true n m h e = absurd (omega arith)
 pick-zero false n m h e = (refl, e)
 
 writes : (b out whole : List ℕ) (at size r : ℕ) → r ≡ 0 → size ≡ length b → whole ≡ placed out at b
-    → (_≡_ {A = Wrote} (record { refusal = 0; next = at + size }) (wrote r b at)) × (whole ≡ outAfter r b out at)
+    → (stored (at + size) ≡ wrote r b at) × (whole ≡ outAfter r b out at)
 writes b out whole at size r z e p = (rw (z, e), rw z p)
 
 -- the room that the code judges is that of the record's bytes
@@ -175,7 +183,7 @@ module _ (b out : List ℕ) (at : ℕ) (none : 0 ≡ roomRefusal b out at) where
 
   -- with room, the call below has put the whole record
   module _ (size : ℕ) (rest : List ℕ) (barred : Bool) (fine : barred ≡ false)
-      (answered : size ≡ putLength barred b (part out at)) (stored : rest ≡ putBytes barred b (part out at)) where
+      (answered : size ≡ putLength barred b (part out at)) (changed : rest ≡ putBytes barred b (part out at)) where
     in-part : length b ≤ length (part out at)
     in-part = let f : at + length b ≤ length out = room-fits in rw (part-is out at, length-drop at out) (omega arith)
 
@@ -185,18 +193,18 @@ module _ (b out : List ℕ) (at : ℕ) (none : 0 ≡ roomRefusal b out at) where
     put-back : back out at rest ≡ placed out at b
     put-back =
         let e : putBytes barred b (part out at) ≡ placed (part out at) 0 b = rw (fine, le-ltb (length (part out at)) (length b) in-part) in
-        ap (back out at) (stored ∙ e) ∙ back-placed out at b
+        ap (back out at) (changed ∙ e) ∙ back-placed out at b
 
     pub put-fits : at + size ≤ length out
     put-fits = omega (arith, room-fits, put-size)
 
     pub put-writes : (r : ℕ) → r ≡ 0
-        → (_≡_ {A = Wrote} (record { refusal = 0; next = at + size }) (wrote r b at)) × (back out at rest ≡ outAfter r b out at)
+        → (stored (at + size) ≡ wrote r b at) × (back out at rest ≡ outAfter r b out at)
     put-writes r z = writes b out (back out at rest) at size r z put-size put-back
 
 -- ---- what a refusal's number makes of the answer and the bytes
 
 pub refuses : (b out : List ℕ) (at n r : ℕ) → (n ≡ 0 → ⊥) → r ≡ n
-    → (_≡_ {A = Wrote} (record { refusal = n; next = 0 }) (wrote r b at)) × (out ≡ outAfter r b out at)
+    → (refused n ≡ wrote r b at) × (out ≡ outAfter r b out at)
 refuses b out at zero r z e = absurd (z refl)
 refuses b out at (suc n) r z e = (rw e, rw e)

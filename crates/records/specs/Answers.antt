@@ -1,6 +1,6 @@
 -- For each enum that a function answers with: document 01's number and values of each of its cases.
 use Rattle.records.specs.Marks.{Mark, KA, RQ, EV, PF, bad}
-use Rattle.records.specs.Writing.{Wrote}
+use Rattle.records.specs.Writing.{Wrote, stored, refused}
 use Rattle.records.specs.declared.kind.Kind.{Kind}
 use Rattle.records.specs.declared.kind.Kind.the-variants as kind
 use Rattle.records.specs.declared.write.Written.{Written}
@@ -13,6 +13,6 @@ kindMark kind.Ev = EV
 kindMark kind.Pf = PF
 kindMark (kind.Refused n) = bad n
 
-abbrev pub writtenNumbers : Written → Wrote
-writtenNumbers (written.Next at) = record { refusal = 0; next = at }
-writtenNumbers (written.Refused n) = record { refusal = n; next = 0 }
+abbrev pub writtenAnswer : Written → Wrote
+writtenAnswer (written.Next at) = stored at
+writtenAnswer (written.Refused n) = refused n

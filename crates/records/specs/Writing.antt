@@ -10,10 +10,10 @@ use Rattle.paging.specs.Refusals.{refuse, sizesRefusal, largestK}
 use Rattle.wire.specs.Numbers.{placed}
 use Rattle.records.specs.Bytes.{kaBytes, rqBytes, evBytes, pfBytes}
 
--- what a writer answers: a refusal's number (0: none), and the offset behind the record (0 for a refusal)
-pub record Wrote : Type 0 where
-  pub refusal : ℕ
-  pub next : ℕ
+-- what a writer answers: the offset behind the record, or a refusal's number
+pub data Wrote : Type 0 where
+  stored : (next : ℕ) → Wrote
+  refused : (number : ℕ) → Wrote
 
 -- the record's bytes b are to be stored into `out` from `at` on: 9, then 8
 unfoldable pub roomRefusal : List ℕ → List ℕ → ℕ → ℕ
@@ -37,8 +37,8 @@ pfRefusal t page out at = roomRefusal (pfBytes t page) out at
 
 -- by the refusal's number: the answer, and the lent bytes afterwards. On a refusal no byte changes, and bytes outside the record never do
 abbrev pub wrote : ℕ → List ℕ → ℕ → Wrote
-wrote zero b at = record { refusal = 0; next = at + length b }
-wrote (suc n) b at = record { refusal = suc n; next = 0 }
+wrote zero b at = stored (at + length b)
+wrote (suc n) b at = refused (suc n)
 
 abbrev pub outAfter : ℕ → List ℕ → List ℕ → ℕ → List ℕ
 outAfter zero b out at = placed out at b

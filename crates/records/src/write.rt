@@ -3,7 +3,7 @@ ghost use Prim.Native.Nat.{_-_};
 ghost use mathlib.Core.Path.{_≡_};
 ghost use lib.Dec.{ltb};
 ghost use Rattle.paging.specs.Refusals.{refuse};
-ghost use Rattle.records.specs.Answers.{writtenNumbers};
+ghost use Rattle.records.specs.Answers.{writtenAnswer};
 ghost use Rattle.records.specs.Bytes.{kaBytes, rqBytes, evBytes, pfBytes};
 ghost use Rattle.records.specs.Writing.{kaRefusal, rqRefusal, evRefusal, pfRefusal, wrote, outAfter};
 use crate::length;
@@ -16,7 +16,7 @@ pub enum Written {
 }
 
 pub fn ka(out: &mut [u8], at: usize, k: u32, a: u32) -> Written
-    ensures { λ r. ⌜ (writtenNumbers r ≡ wrote (kaRefusal k a (now (out .entry)) at) (kaBytes k a) at)
+    ensures { λ r. ⌜ (writtenAnswer r ≡ wrote (kaRefusal k a (now (out .entry)) at) (kaBytes k a) at)
         × (now (out .exit) ≡ outAfter (kaRefusal k a (now (out .entry)) at) (kaBytes k a) (now (out .entry)) at) ⌝ }
 {
     let own = paging::Sizes { k, a }.refusal();
@@ -32,7 +32,7 @@ pub fn ka(out: &mut [u8], at: usize, k: u32, a: u32) -> Written
 }
 
 pub fn rq(out: &mut [u8], at: usize, page: u32) -> Written
-    ensures { λ r. ⌜ (writtenNumbers r ≡ wrote (rqRefusal page (now (out .entry)) at) (rqBytes page) at)
+    ensures { λ r. ⌜ (writtenAnswer r ≡ wrote (rqRefusal page (now (out .entry)) at) (rqBytes page) at)
         × (now (out .exit) ≡ outAfter (rqRefusal page (now (out .entry)) at) (rqBytes page) (now (out .entry)) at) ⌝ }
 {
     let no = room(out.len(), at, length::RQ);
@@ -44,7 +44,7 @@ pub fn rq(out: &mut [u8], at: usize, page: u32) -> Written
 }
 
 pub fn ev(out: &mut [u8], at: usize, t: u32, pages: &[u32]) -> Written
-    ensures { λ r. ⌜ (writtenNumbers r ≡ wrote (evRefusal t (now (pages .entry)) (now (out .entry)) at) (evBytes t (now (pages .entry))) at)
+    ensures { λ r. ⌜ (writtenAnswer r ≡ wrote (evRefusal t (now (pages .entry)) (now (out .entry)) at) (evBytes t (now (pages .entry))) at)
         × (now (out .exit) ≡ outAfter (evRefusal t (now (pages .entry)) (now (out .entry)) at) (evBytes t (now (pages .entry))) (now (out .entry)) at) ⌝ }
 {
     let n = pages.len();
@@ -63,7 +63,7 @@ pub fn ev(out: &mut [u8], at: usize, t: u32, pages: &[u32]) -> Written
 }
 
 pub fn pf(out: &mut [u8], at: usize, t: u32, page: u32) -> Written
-    ensures { λ r. ⌜ (writtenNumbers r ≡ wrote (pfRefusal t page (now (out .entry)) at) (pfBytes t page) at)
+    ensures { λ r. ⌜ (writtenAnswer r ≡ wrote (pfRefusal t page (now (out .entry)) at) (pfBytes t page) at)
         × (now (out .exit) ≡ outAfter (pfRefusal t page (now (out .entry)) at) (pfBytes t page) (now (out .entry)) at) ⌝ }
 {
     let no = room(out.len(), at, length::PF);

@@ -1,6 +1,6 @@
 -- `write_pf` meets its contract: the fields of the answer are stored, and lent lists are as the call leaves them.
 use Rattle.exports.proofs.Stored.{stored}
-use Rattle.exports.specs.Fields.{wroteFields}
+use Rattle.exports.specs.Cases.{wroteFields}
 use borrow.Author.Needs.{needs}
 use Rattle.exports.proofs.writer_calls.write_pf.Statement.{statement}
 use Rattle.exports.proofs.writer_calls.write_pf.Tie as tie
