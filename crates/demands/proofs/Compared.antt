@@ -3,32 +3,28 @@ use Prim.Native.Nat.{ℕ, _≤_}
 use native.Mathlib.Omega.{arith}
 use mathlib.Core.List.{List, []}
 use mathlib.Core.Path.{_≡_, refl, ap, sym, _∙_}
-use lib.Seq.{take-append-seam}
 use Rattle.paging.specs.Min.{bestCount}
 use Rattle.paging.proofs.Refusals.{trace-right}
 use Rattle.theory.proofs.Best.{min-serves, min-costs-best, serving-costs-best, layers-count-best}
 use Rattle.theory.proofs.Lru.{lru-within-factor}
 use Rattle.theory.proofs.Possible.{possible-is-what-min-can-hold, min-holds-possible-sets}
-use Rattle.records.specs.Bytes.{traceBytes, scheduleBytes}
+use Rattle.records.specs.Bytes.{traceBytes}
 use Rattle.lru.specs.Standing.{acceptedPages, emptyState}
 use Rattle.lru.specs.declared.Run.{Run}
 use Rattle.lru.proofs.Steps as lru
 use Rattle.layers.specs.declared.LayersRun.{LayersRun}
 use Rattle.layers.proofs.Steps.{yes-exactly}
-use Rattle.min.specs.Calls.{bytesRefusal, scheduleRefusal, minSchedule}
+use Rattle.min.specs.Calls.{bytesRefusal, scheduleRefusal, scheduleWritten}
+use Rattle.min.proofs.ReadBack.{schedule-written}
 use Rattle.judging.specs.Answer.{cost, answerNumber}
 use Rattle.judging.specs.Files.{judged}
 use Rattle.judging.proofs.ExactFiles.{sound, complete}
 use Rattle.judging.proofs.Numbers.{refusals-are-numbered, number-is-cost}
-use Rattle.demands.specs.Demand3.{Compares, Demand3, minEntries, scheduleWritten}
+use Rattle.demands.specs.Demand3.{Compares, Demand3, minEntries}
 use Rattle.demands.specs.LayersCalls.{layersStart, layersAfterCalls, layersTrace}
 use Rattle.demands.proofs.LayersLists.{list-stands}
 
 -- MIN's schedule, and the judge's answer to it
-
-written-is : (k a : ℕ) (trace out : List ℕ) → scheduleRefusal k a trace out ≡ 0 → scheduleWritten k a trace out ≡ scheduleBytes k a (minEntries k a trace)
-unfolding minSchedule
-written-is k a trace out e = rw e (take-append-seam (scheduleBytes k a (minEntries k a trace)) _)
 
 judge-answers : (k a : ℕ) → 1 ≤ a → a ≤ k → k ≤ 256 → (trace out : List ℕ) → scheduleRefusal k a trace out ≡ 0
     → judged (traceBytes k a trace) (scheduleWritten k a trace out) ≡ cost (bestCount k a trace)
@@ -42,7 +38,7 @@ judge-answers k a pos le small trace out e =
       sizes = record { a-low = pos; a-high = le; k-high = small };
       few = trace-right k a trace (bytesRefusal k a trace out) e .1;
       trace-is = refl;
-      schedule-is = written-is k a trace out e;
+      schedule-is = schedule-written k a trace out e;
       legal = min-serves k a pos le trace;
       costs = sym (min-costs-best k a pos le trace);
     })
@@ -73,7 +69,7 @@ compares k a pos le small =
           yes .1 (min-holds-possible-sets k a pos le trace set once later h);
       min-counts-the-best-count = λ trace e. rw e refl;
       min-reports-the-best-count = λ trace out e. rw e refl;
-      min-writes-its-schedule = λ trace out e. written-is k a trace out e;
+      min-writes-its-schedule = schedule-written k a;
       judge-answers-the-best-count = λ trace out e. ap answerNumber (judge-answers k a pos le small trace out e);
     }
 

@@ -5,7 +5,6 @@ use mathlib.Core.List.{List, []}
 use mathlib.Core.Logic.{_↔_}
 use mathlib.Core.Path.{_≡_}
 use lib.IntN.{pos}
-use lib.ListN.{length, take}
 use Rattle.lists.specs.Pages.{distinct}
 use Rattle.paging.specs.Min.{minRule, bestCount}
 use Rattle.paging.specs.Policy.{holds, bundles}
@@ -19,7 +18,7 @@ use Rattle.lru.specs.Standing.{Call, afterCalls, acceptedPages, emptyState}
 use Rattle.layers.specs.Questions.{PossibleTold}
 use Rattle.layers.specs.declared.PossibleAnswer.{PossibleAnswer}
 use Rattle.layers.specs.declared.PossibleAnswer.the-variants.{Yes}
-use Rattle.min.specs.Calls.{countsOf, scheduleRefusal, scheduledOf, bytesOf}
+use Rattle.min.specs.Calls.{countsOf, scheduleRefusal, scheduledOf, scheduleWritten}
 use Rattle.judging.specs.Answer.{refused, answerNumber}
 use Rattle.judging.specs.Files.{judged}
 use Rattle.judging.specs.LegalFiles.{LegalFiles}
@@ -28,10 +27,6 @@ use Rattle.demands.specs.LayersCalls.{LayersCall, layersStart, layersAft
 -- MIN's bundles of a trace as EVs
 abbrev pub minEntries : (k a : ℕ) → (trace : List ℕ) → List Entry
 minEntries k a trace = bundles (minRule a) k 0 trace [] []
-
--- just the schedule's bytes, as MIN leaves them in the lent bytes
-abbrev pub scheduleWritten : (k a : ℕ) → (trace out : List ℕ) → List ℕ
-scheduleWritten k a trace out = take (scheduledOf k a trace out .length) (bytesOf k a trace out)
 
 pub record Compares (k a : ℕ) : Type 0 where
   -- "MIN's bundles, as EVs, are a legal schedule of a trace; every other legal schedule of it costs at least its best count"

@@ -6,21 +6,21 @@ use native.Mathlib.Omega.{arith}
 use mathlib.Core.List.{List, [], _∷_, _++_}
 use mathlib.Core.Path.{_≡_, sym, _∙_, ap}
 use lib.ListN.{length, length-append}
-use lib.Seq.{length-take-le}
+use lib.Seq.{length-take-le, take-append-seam}
 use Rattle.lists.specs.Choice.{pick}
 use Rattle.lists.specs.Pages.{bit, count}
 use Rattle.lists.specs.Sorting.{sortBy}
 use Rattle.lists.proofs.Sorting.{length-sort}
 use Rattle.paging.specs.Min.{farther, minRule, bestCount}
 use Rattle.paging.specs.Policy.{isBundled, serve, kinds, bundles}
-use Rattle.paging.specs.Refusals.{SizesRight}
 use Rattle.paging.specs.Schedule.{ev, entriesCost}
+use Rattle.paging.proofs.Refusals.{trace-right}
 use Rattle.paging.proofs.Runs.{kind-of-cases, bundles-cost}
 use Rattle.records.specs.Bytes.{evBytes, entryBytes, joined, evLength, scheduleBytes, AllWritable}
 use Rattle.records.proofs.Lengths.{length-evBytes}
 use Rattle.reading.specs.Files.{ReadsAsSchedule}
 use Rattle.reading.proofs.RoundTrip.{schedule-reads-back}
-use Rattle.min.specs.Calls.{minSchedule}
+use Rattle.min.specs.Calls.{minSchedule, bytesRefusal, scheduleRefusal, scheduleWritten}
 
 -- a bundle takes a pages
 bundle-many : (k a : ℕ) (later held : List ℕ) → a ≤ k → k ≤ length held → length (minRule a later held) ≡ a
@@ -77,11 +77,17 @@ schedule-long k a trace h =
     let s : length (scheduleBytes k a (bundles (minRule a) k 0 trace [] [])) ≡ 6 + length (joined entryBytes (bundles (minRule a) k 0 trace [] [])) = omega arith in
     s ∙ ap (λ (m : ℕ). 6 + m) l
 
--- read back, the schedule is the KA and MIN's bundles, with no damage, for any bound on n from a on: the judge's is a, that of a reader without an a is 256
-pub min-reads-back : (bound k a : ℕ) (trace : List ℕ) → SizesRight k a → a ≤ bound
-    → ReadsAsSchedule bound k a (bundles (minRule a) k 0 trace [] []) (minSchedule k a trace)
+-- what the call leaves in the lent bytes is a KA and an EV for each bundle
+pub schedule-written : (k a : ℕ) (trace out : List ℕ) → scheduleRefusal k a trace out ≡ 0
+    → scheduleWritten k a trace out ≡ scheduleBytes k a (bundles (minRule a) k 0 trace [] [])
 unfolding minSchedule
-min-reads-back bound k a trace right within =
+schedule-written k a trace out e = rw e (take-append-seam (scheduleBytes k a (bundles (minRule a) k 0 trace [] [])) _)
+
+-- read back, it is the KA and MIN's bundles, with no damage, for any bound on n from a on: the judge's is a, that of a reader without an a is 256
+pub min-reads-back : (bound k a : ℕ) (trace out : List ℕ) → scheduleRefusal k a trace out ≡ 0 → a ≤ bound
+    → ReadsAsSchedule bound k a (bundles (minRule a) k 0 trace [] []) (scheduleWritten k a trace out)
+min-reads-back bound k a trace out e within =
+    let right = trace-right k a trace (bytesRefusal k a trace out) e .0 in
     let small = right .k-high in
     let writable = bundles-writable bound k a (right .a-low) (right .a-high) within (omega arith) 0 trace [] [] in
-    schedule-reads-back bound k a (bundles (minRule a) k 0 trace [] []) right writable
+    rw (schedule-written k a trace out e) (schedule-reads-back bound k a (bundles (minRule a) k 0 trace [] []) right writable)

@@ -3,7 +3,7 @@
 use Prim.Native.Nat.{ℕ, zero, suc}
 use mathlib.Core.List.{List, [], _++_}
 use lib.Dec.{ltb}
-use lib.ListN.{length, drop}
+use lib.ListN.{length, take, drop}
 use Rattle.paging.specs.Min.{minRule, bestCount, minLoads}
 use Rattle.paging.specs.Policy.{bundles}
 use Rattle.paging.specs.Refusals.{refuse, traceRefusal}
@@ -47,3 +47,7 @@ scheduledOf k a trace out = scheduledBy (scheduleRefusal k a trace out) k a trac
 
 abbrev pub bytesOf : (k a : ℕ) → (trace out : List ℕ) → List ℕ
 bytesOf k a trace out = bytesBy (scheduleRefusal k a trace out) k a trace out
+
+-- just the schedule's bytes, as the call leaves them at the start of the lent bytes
+abbrev pub scheduleWritten : (k a : ℕ) → (trace out : List ℕ) → List ℕ
+scheduleWritten k a trace out = take (scheduledOf k a trace out .length) (bytesOf k a trace out)
