@@ -1,5 +1,5 @@
 // Whether a record and a table are well formed (document 01, "Well formed"), for refusal 9.
-ghost use Prim.Native.Nat.{_≤_, _<_};
+ghost use Prim.Native.Nat.{_+_, _≤_, _<_};
 ghost use mathlib.Core.Path.{_≡_};
 ghost use lib.Dec.{eqb, ltb};
 ghost use lib.ListN.{length};
@@ -115,7 +115,7 @@ fn none_above(numbers: &[u32], s: u32) -> bool
 
 // Whether layers 1 to s are all present.
 fn present(sizes: &[usize; NUMBERS], s: usize) -> bool
-    requires { ⌜ (length (now sizes) ≡ 257) × (s < 257) ⌝ }
+    requires { ⌜ (length (now sizes) ≡ largestK + 1) × (s < largestK + 1) ⌝ }
     ensures { λ r. ⌜ r ≡ presentIn s (now (sizes .entry)) ⌝ }
 {
     let mut i = s;
@@ -130,7 +130,7 @@ fn present(sizes: &[usize; NUMBERS], s: usize) -> bool
 
 // Whether each layer of 1 to s that is above the limit has no second page.
 fn single_above(sizes: &[usize; NUMBERS], limit: usize, s: usize) -> bool
-    requires { ⌜ (length (now sizes) ≡ 257) × (s < 257) ⌝ }
+    requires { ⌜ (length (now sizes) ≡ largestK + 1) × (s < largestK + 1) ⌝ }
     ensures { λ r. ⌜ r ≡ singleIn limit s (now (sizes .entry)) ⌝ }
 {
     let mut i = s;

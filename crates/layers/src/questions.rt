@@ -1,5 +1,5 @@
 // What the questions read off a table: the run of single-page layers at the top end, and the layers that the pages of a set are in.
-ghost use Prim.Native.Nat.{ℕ, _≤_, _<_};
+ghost use Prim.Native.Nat.{ℕ, _+_, _≤_, _<_};
 ghost use mathlib.Core.List.{map};
 ghost use mathlib.Core.Path.{_≡_};
 ghost use lib.ListN.{length, getD};
@@ -48,7 +48,7 @@ pub(crate) fn tally_set(pages: &[u32], numbers: &[u32], set: &[u32]) -> [usize; 
 
 // The smallest layer i of 0 to s such that more than i pages are in L0 to Li, if there is one.
 pub(crate) fn first_broken(sizes: &[usize; NUMBERS], s: u32) -> PossibleAnswer
-    requires { ⌜ (length (now sizes) ≡ 257) × (s ≤ largestK) × ((j : ℕ) → j < 257 → getD (now sizes) j 0 ≤ largestK) ⌝ }
+    requires { ⌜ (length (now sizes) ≡ largestK + 1) × (s ≤ largestK) × ((j : ℕ) → j < largestK + 1 → getD (now sizes) j 0 ≤ largestK) ⌝ }
     ensures { λ r. ⌜ Walked s (now (sizes .entry)) r ⌝ }
 {
     let mut total = 0;

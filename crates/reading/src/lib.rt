@@ -128,7 +128,8 @@ pub fn schedule(s: &[u8], at: usize) -> ScheduleRecord
     schedule_within(s, at, MOST)
 }
 
-// The bytes of n pages from an offset on, as a part of the file; where the file ends before, those that are there.
+// The bytes of n pages from an offset on, as a part of the file; where the file ends before, those that are there. It only cuts: the answer that
+// has `from` and n has judged 5, 6 and 9 of them.
 pub fn pages(s: &[u8], from: usize, n: usize) -> &[u8]
     ensures { λ r. ⌜ now r ≡ take (4 * n) (drop from (now (s .entry))) ⌝ }
 {

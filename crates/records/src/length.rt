@@ -281,7 +281,7 @@ fn wide(x: u16) -> usize
     x as usize
 }
 
-// The length of an EV with n pages. No EV has more than 256: 0 is answered for more.
+// The length of an EV with n pages. No EV has more than 256: 0 is answered for more. Inner: whoever calls it has judged n (6) before.
 pub fn ev_length(n: usize) -> usize
     ensures { λ r. ⌜ r ≡ tableEntry n ⌝ }
 {

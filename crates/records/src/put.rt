@@ -1,5 +1,5 @@
-// Below the writers: a record goes to the start of the rest of the lent bytes. Each function answers the record's length; where
-// the rest is too short it answers 0 and changes nothing.
+// Below the writers, and inner: a record goes to the start of the rest of the lent bytes. Each function answers the record's length; where
+// the rest is too short it answers 0 and changes nothing. The writers have judged that by its number before.
 ghost use Prim.Native.Nat.{_+_, _*_, _≤_};
 ghost use mathlib.Core.Bool.{false};
 ghost use mathlib.Core.Path.{_≡_};

@@ -8,6 +8,7 @@ use lib.ListN.{length, getD}
 use Rattle.lists.specs.Choice.{_and_, _or_}
 use Rattle.lists.specs.Pages.{count}
 use Rattle.lists.specs.Sorting.{Row}
+use Rattle.paging.specs.Refusals.{largestK}
 use Rattle.paging.specs.Rows.{rowAt}
 use Rattle.layers.specs.Formed.{present, singleAbove}
 use Rattle.layers.specs.declared.LayersRun.{LayersRun}
@@ -18,10 +19,10 @@ use Rattle.layers.specs.declared.PossibleAnswer.the-variants.{Yes, Count
 abbrev pub timesIn : (i : ℕ) → List ℕ → ℕ
 timesIn i numbers = count (λ n. eqb n i) numbers
 
--- entry i of sizes is how often i stands in the list, for each i up to 256
+-- entry i of sizes is how often i stands in the list, for each number of a layer
 pub record Tallied (numbers sizes : List ℕ) : Type 0 where
-  pub long : length sizes ≡ 257
-  pub each : (i : ℕ) → i < 257 → getD sizes i 0 ≡ timesIn i numbers
+  pub long : length sizes ≡ largestK + 1
+  pub each : (i : ℕ) → i < largestK + 1 → getD sizes i 0 ≡ timesIn i numbers
 
 abbrev pub presentIn : (s : ℕ) → (sizes : List ℕ) → Bool
 presentIn zero sizes = true
