@@ -5,6 +5,7 @@ ghost use mathlib.Core.List.{[], _∷_};
 ghost use Prim.Native.Nat.{_*_};
 ghost use lib.ListN.{length, take, drop};
 ghost use Rattle.lists.specs.Places.{pasted};
+ghost use Rattle.paging.specs.Refusals.{largestK};
 ghost use Rattle.records.specs.Marks.{markAt};
 ghost use Rattle.reading.specs.Reading.{kaRead, readTrace, readSchedule};
 ghost use Rattle.exports.specs.Cases.{answerFields, startFields, traceFields, scheduleFields};
@@ -40,7 +41,7 @@ pub extern "C" fn trace_reader(file: &[u8], at: usize, out: &mut [u64])
 
 #[no_mangle]
 pub extern "C" fn read_schedule(file: &[u8], at: usize, out: &mut [u64])
-    ensures { λ _. ⌜ now (out .exit) ≡ pasted (answerFields (readSchedule 256 (now (file .entry)) at)) (now (out .entry)) ⌝ }
+    ensures { λ _. ⌜ now (out .exit) ≡ pasted (answerFields (readSchedule largestK (now (file .entry)) at)) (now (out .entry)) ⌝ }
 {
     let all = schedule_fields(reading::schedule(file, at));
     store::fields(&all, out);
@@ -58,7 +59,7 @@ pub extern "C" fn read_schedule_within(file: &[u8], at: usize, bound: u32, out: 
 // The schedule reader by the struct.
 #[no_mangle]
 pub extern "C" fn schedule_reader(file: &[u8], at: usize, out: &mut [u64])
-    ensures { λ _. ⌜ now (out .exit) ≡ pasted (answerFields (readSchedule 256 (now (file .entry)) at)) (now (out .entry)) ⌝ }
+    ensures { λ _. ⌜ now (out .exit) ≡ pasted (answerFields (readSchedule largestK (now (file .entry)) at)) (now (out .entry)) ⌝ }
 {
     let all = schedule_fields(schedule_at(file, at));
     store::fields(&all, out);

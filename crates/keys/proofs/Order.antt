@@ -1,6 +1,6 @@
 -- Keys stand in the model's order: farther is below, so that sorted keys are the keys of the pages sorted by `farther`. The key of a
 -- page that is requested now is above every other, and other pages keep their keys.
-use Prim.Native.Nat.{ℕ, suc, _+_, _-_, _<_}
+use Prim.Native.Nat.{ℕ, suc, _+_, _<_}
 use native.Mathlib.Omega.{arith}
 use mathlib.Core.Bool.{false}
 use mathlib.Core.List.{List, [], _∷_, map}

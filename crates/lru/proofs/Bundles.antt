@@ -1,5 +1,5 @@
 -- The evicted lists over calls: those of the calls that answered 2 are, one after the other, the bundles of LRU's model.
-use Prim.Native.Nat.{ℕ, suc, _+_, _≤_}
+use Prim.Native.Nat.{ℕ, suc, _≤_}
 use native.Mathlib.Numerals.{add-one}
 use native.Mathlib.Omega.{arith}
 use mathlib.Core.Bool.{Bool, true, false}

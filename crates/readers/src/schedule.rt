@@ -2,6 +2,7 @@
 ghost use Prim.Native.Nat.{_*_};
 ghost use mathlib.Core.Path.{_≡_};
 ghost use lib.ListN.{take, drop};
+ghost use Rattle.paging.specs.Refusals.{largestK};
 ghost use Rattle.reading.specs.Answers.{scheduleAnswer};
 ghost use Rattle.reading.specs.Reading.{readSchedule};
 use reading::ScheduleRecord;
@@ -21,7 +22,7 @@ impl<'a> ScheduleReader<'a> {
 
     // What stands at its offset. Of a bundle the answer says where its pages start and how many they are: `pages` gives them.
     pub fn read(self) -> ScheduleRecord
-        ensures { λ r. ⌜ scheduleAnswer r ≡ readSchedule 256 (now (self .entry .file)) (self .entry .at) ⌝ }
+        ensures { λ r. ⌜ scheduleAnswer r ≡ readSchedule largestK (now (self .entry .file)) (self .entry .at) ⌝ }
     {
         reading::schedule(self.file, self.at)
     }
@@ -46,7 +47,7 @@ impl<'a> ScheduleReader<'a> {
 
 // What a schedule reader of a file finds at an offset, for callers that have no reader.
 pub fn schedule_at(file: &[u8], at: usize) -> ScheduleRecord
-    ensures { λ r. ⌜ scheduleAnswer r ≡ readSchedule 256 (now (file .entry)) at ⌝ }
+    ensures { λ r. ⌜ scheduleAnswer r ≡ readSchedule largestK (now (file .entry)) at ⌝ }
 {
     ScheduleReader::new(file).moved(at).read()
 }

@@ -2,6 +2,7 @@
 ghost use Prim.Native.Nat.{_*_, _≤_};
 ghost use mathlib.Core.Path.{_≡_};
 ghost use lib.ListN.{length, take, drop};
+ghost use Rattle.paging.specs.Refusals.{largestK};
 ghost use Rattle.records.specs.Answers.{kindMark};
 ghost use Rattle.records.specs.Marks.{KA, RQ, markAt};
 ghost use Rattle.reading.specs.Answers.{startAnswer, traceAnswer, scheduleAnswer};
@@ -123,7 +124,7 @@ pub fn schedule_within(s: &[u8], at: usize, bound: u32) -> ScheduleRecord
 
 // The schedule reader.
 pub fn schedule(s: &[u8], at: usize) -> ScheduleRecord
-    ensures { λ r. ⌜ scheduleAnswer r ≡ readSchedule 256 (now (s .entry)) at ⌝ }
+    ensures { λ r. ⌜ scheduleAnswer r ≡ readSchedule largestK (now (s .entry)) at ⌝ }
 {
     schedule_within(s, at, MOST)
 }

@@ -1,5 +1,5 @@
 -- A mark that is none of the known ones.
-use Prim.Native.Nat.{ℕ, _-_}
+use Prim.Native.Nat.{ℕ}
 use mathlib.Core.Path.{_≡_}
 use borrow.Author.Tests.{ne-eqb}
 use Rattle.records.specs.Marks.{bad, markOf, markKA, markRQ, markEV, markPF}
