@@ -20,6 +20,6 @@ use Rattle.demands.specs.Cases.{allRight, markedCases}
 
 pub marked-cases-hold : allRight markedCases ≡ true
 unfolding sameEntries samePages _and_ _or_ rowBefore farther sizesRefusal traceRefusal markOf markAt kaRead rqRead readTrace requestsFrom traceFile figures
-    reportOf lru.requestRefusal lru.wellFormed isUnused follows layersWellFormed stateRefusal requestRefusal requestReply pagesNext numbersNext verdict
+    reportOf lru.runRefusal lru.wellFormed isUnused follows layersWellFormed stateRefusal requestRefusal requestReply pagesNext numbersNext verdict
     possibleRefusal earlyRefusal traceTotals
 marked-cases-hold = refl

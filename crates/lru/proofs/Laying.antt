@@ -5,11 +5,11 @@ use native.Mathlib.Omega.{arith}
 use mathlib.Core.List.{List, _++_, append-assoc}
 use mathlib.Core.Path.{_≡_, refl, sym, ap, _∙_}
 use lib.ListN.{length, take, drop, set, replicate, length-append, length-drop, length-set, length-replicate}
-use lib.Seq.{take-all, length-take-le, take-at, drop-drop, drop-append-add, drop-set-lt, take-suc-set, take-take}
+use lib.Seq.{take-all, length-take-le, take-at, drop-drop, drop-append-add, drop-set-lt, take-suc-set}
 use Rattle.lists.specs.Places.{movedToEnd, firstDropped, pasted}
 use Rattle.lists.proofs.Leaves.{length-moved, length-dropped}
 use Rattle.lru.specs.Serving.{laid}
-use Rattle.lru.specs.inner.Cases.{loaded, bundleOver}
+use Rattle.lru.specs.inner.Cases.{loaded}
 
 -- the places from n up to k filled with zero
 laid-made : (n k : ℕ) (held cache c z : List ℕ) → n ≤ k → k ≤ length c → take n c ≡ held → length held ≡ n → drop k c ≡ drop k cache
@@ -83,8 +83,9 @@ module _ (n k out page : ℕ) (cache : List ℕ) (h : n ≤ k) (l : k ≤ length
       ∙ length-laid k (loaded out page (take n cache)) cache
       (simp (length-append, length-drop, length-take-le n cache (omega arith)) (omega arith)) l
 
-  pub load-bundle : (evicted v : List ℕ) → out ≤ length evicted → v ≡ pasted (take out cache) evicted
-      → v ≡ bundleOver out (take n cache) evicted
-  load-bundle evicted v r e =
-      let t : length (take out cache) ≡ out = length-take-le out cache (omega arith) in
-      e ∙ rw (take-all (length evicted) (take out cache) (omega arith), t, take-take out n cache o) refl
+-- the bundle copied over the front of the evicted list
+pub bundle-copied : (a : ℕ) (cache evicted v : List ℕ) → a ≤ length cache → a ≤ length evicted → v ≡ pasted (take a cache) evicted
+    → v ≡ take a cache ++ drop a evicted
+bundle-copied a cache evicted v h g e =
+    let t : length (take a cache) ≡ a = length-take-le a cache h in
+    e ∙ rw (take-all (length evicted) (take a cache) (omega arith), t) refl

@@ -1,18 +1,18 @@
 -- The refusals: each test of the code is a condition of the list, and where none holds the state is ready.
 use Prim.Native.Nat.{ℕ, _≤_, _<_}
 use native.Mathlib.Omega.{arith}
-use mathlib.Core.Bool.{true, false, not}
+use mathlib.Core.Bool.{Bool, true, false, not}
 use mathlib.Core.List.{List}
 use mathlib.Core.Path.{_≡_, refl, sym, _∙_}
 use lib.Dec.{eqb, ltb}
 use lib.ListN.{length, take}
 use borrow.Author.Tests.{eq-eqb, ne-eqb, eqb-false, lt-ltb, le-ltb, le-leb, lt-leb, not-false}
-use Rattle.lists.specs.Choice.{_or_}
+use Rattle.lists.specs.Choice.{_and_, _or_}
 use Rattle.lists.specs.Pages.{distinct}
-use Rattle.lists.proofs.Choice.{tests, and-l, and-r, and-i, and-false-l, and-false-r, or-none-l, or-none-r}
+use Rattle.lists.proofs.Choice.{tests, and-l, and-r, and-false-l, and-false-r, or-none-l, or-none-r}
 use Rattle.paging.specs.Refusals.{refuse, sizesRefusal, traceRefusal}
 use Rattle.paging.proofs.Refusals.{zero-pass, sizes-pass, sizes-fall, sizes-rest, trace-right}
-use Rattle.lru.specs.Calls.{wellFormed, requestRefusal, replyOf, cacheOf, evictedOf, totalsOf}
+use Rattle.lru.specs.Calls.{wellFormed, runRefusal, requestRefusal, replyOf, cacheOf, evictedOf, totalsOf}
 use Rattle.lru.specs.Serving.{emptyRun}
 use Rattle.lru.specs.Standing.{runOver}
 use Rattle.lru.specs.declared.Reply.{Reply}
@@ -20,64 +20,79 @@ use Rattle.lru.specs.declared.Run.{Run}
 use Rattle.lru.specs.inner.Ready.{RequestReady, TraceReady}
 use Rattle.lru.proofs.Served.{Served}
 
-module _ (run : Run) (count : ℕ) (cache evicted : List ℕ) where
+module _ (run : Run) (count : ℕ) (cache evicted : List ℕ) (ill : Bool) where
   -- no refusal
-  pub ready-of : requestRefusal run count cache evicted ≡ 0 → RequestReady run count cache evicted
-  unfolding requestRefusal wellFormed
-  ready-of e =
+  pub run-ready : (rest : ℕ) → runRefusal run count cache evicted ill rest ≡ 0 → RequestReady run count cache evicted × (ill ≡ false) × (rest ≡ 0)
+  unfolding runRefusal wellFormed
+  run-ready rest e =
       let sizes = sizes-rest (run .k) (run .a) _ e in
       let eight = zero-pass (ltb (length cache) (run .k) or ltb (length evicted) (run .a)) 8 _ (λ z. omega arith) (sizes .1) in
-      let nine = zero-pass (not (wellFormed run count cache)) 9 _ (λ z. omega arith) (eight .1) in
-      let twelve = zero-pass (eqb (run .requests) 4294967295) 12 0 (λ z. omega arith) (nine .1) in
-      let well : wellFormed run count cache ≡ true = not-false _ (nine .0) in
+      let nine = zero-pass (not (wellFormed run count cache) or ill) 9 _ (λ z. omega arith) (eight .1) in
+      let twelve = zero-pass (eqb (run .requests) 4294967295) 12 rest (λ z. omega arith) (nine .1) in
+      let well : wellFormed run count cache ≡ true = not-false _ (or-none-l _ _ (nine .0)) in
       let c = or-none-l _ _ (eight .0) in
       let v = or-none-r _ _ (eight .0) in
       let w1 = and-l _ _ well in
       let w2 = and-l _ _ (and-r _ _ well) in
       let w3 = and-l _ _ (and-r _ _ (and-r _ _ well)) in
-      let w4 = and-r _ _ (and-r _ _ (and-r _ _ well)) in
-      record {
-        sizes = sizes .0;
-        cache-room = omega tests;
-        evicted-room = omega tests;
-        count-most = omega tests;
-        evictions-most = omega tests;
-        loads-most = omega tests;
-        once = w4;
-        further = eqb-false _ _ (twelve .0);
-      }
+      let w4 = and-r _ _ (and-r _ _ (and-r _ _ well)) in (
+        record {
+          sizes = sizes .0;
+          cache-room = omega tests;
+          evicted-room = omega tests;
+          count-most = omega tests;
+          evictions-most = omega tests;
+          loads-most = omega tests;
+          once = w4;
+          further = eqb-false _ _ (twelve .0);
+        },
+        or-none-r _ _ (nine .0),
+        twelve .1,
+      )
 
   -- each return of the code
 
-  pub number-sizes : (n : ℕ) → n ≡ sizesRefusal (run .k) (run .a) 0 → (n ≡ 0 → ⊥) → n ≡ requestRefusal run count cache evicted
-  unfolding requestRefusal
+  pub number-sizes : (n : ℕ) → n ≡ sizesRefusal (run .k) (run .a) 0 → (n ≡ 0 → ⊥) → n ≡ runRefusal run count cache evicted ill 0
+  unfolding runRefusal
   number-sizes n e z = sym (sizes-fall (run .k) (run .a) _ n e z)
 
   module _ (n : ℕ) (sz : n ≡ sizesRefusal (run .k) (run .a) 0) (z : n ≡ 0) where
-    pub number-cache : length cache < run .k → 8 ≡ requestRefusal run count cache evicted
-    unfolding requestRefusal _or_
+    pub number-cache : length cache < run .k → 8 ≡ runRefusal run count cache evicted ill 0
+    unfolding runRefusal _or_
     number-cache h = sym (sizes-pass (run .k) (run .a) _ (sym sz ∙ z) ∙ rw (lt-ltb _ _ h) refl)
 
     module _ (hc : run .k ≤ length cache) where
-      pub number-evicted : length evicted < run .a → 8 ≡ requestRefusal run count cache evicted
-      unfolding requestRefusal _or_
+      pub number-evicted : length evicted < run .a → 8 ≡ runRefusal run count cache evicted ill 0
+      unfolding runRefusal _or_
       number-evicted h = sym (sizes-pass (run .k) (run .a) _ (sym sz ∙ z) ∙ rw (le-ltb _ _ hc, lt-ltb _ _ h) refl)
 
       module _ (he : run .a ≤ length evicted) where
-        rest-is : requestRefusal run count cache evicted
-            ≡ refuse (not (wellFormed run count cache)) 9 (refuse (eqb (run .requests) 4294967295) 12 0)
-        unfolding requestRefusal _or_
-        rest-is = sizes-pass (run .k) (run .a) _ (sym sz ∙ z) ∙ rw (le-ltb _ _ hc, le-ltb _ _ he) refl
+        rest-is : (w : Bool) → w ≡ wellFormed run count cache
+            → runRefusal run count cache evicted ill 0 ≡ refuse (not w or ill) 9 (refuse (eqb (run .requests) 4294967295) 12 0)
+        unfolding runRefusal _or_
+        rest-is w e = sizes-pass (run .k) (run .a) _ (sym sz ∙ z) ∙ rw (le-ltb _ _ hc, le-ltb _ _ he, e) refl
 
-        pub number-ill : wellFormed run count cache ≡ false → 9 ≡ requestRefusal run count cache evicted
-        number-ill w = sym (rest-is ∙ rw w refl)
+        pub number-formed : (w : Bool) → w ≡ wellFormed run count cache → w ≡ false → 9 ≡ runRefusal run count cache evicted ill 0
+        unfolding _or_
+        number-formed w e f = sym (rest-is w e ∙ rw f refl)
 
-        pub number-last : wellFormed run count cache ≡ true → run .requests ≡ 4294967295 → 12 ≡ requestRefusal run count cache evicted
-        number-last w h = sym (rest-is ∙ rw (w, eq-eqb _ _ h) refl)
+        module _ (w : Bool) (e : w ≡ wellFormed run count cache) (f : w ≡ true) where
+          pub number-ill : ill ≡ true → 9 ≡ runRefusal run count cache evicted ill 0
+          unfolding _or_
+          number-ill i = sym (rest-is w e ∙ rw (f, i) refl)
 
-        pub number-none : wellFormed run count cache ≡ true → (run .requests ≡ 4294967295 → ⊥) → 0 ≡ requestRefusal run count cache evicted
-        number-none w h = sym (rest-is ∙ rw (w, ne-eqb _ _ h) refl)
+          pub number-last : ill ≡ false → run .requests ≡ 4294967295 → 12 ≡ runRefusal run count cache evicted ill 0
+          unfolding _or_
+          number-last i h = sym (rest-is w e ∙ rw (f, i, eq-eqb _ _ h) refl)
 
+          pub number-none : ill ≡ false → (run .requests ≡ 4294967295 → ⊥) → 0 ≡ runRefusal run count cache evicted ill 0
+          unfolding _or_
+          number-none i h = sym (rest-is w e ∙ rw (f, i, ne-eqb _ _ h) refl)
+
+pub ready-of : (run : Run) (count : ℕ) (cache evicted : List ℕ) → requestRefusal run count cache evicted ≡ 0 → RequestReady run count cache evicted
+ready-of run count cache evicted e = run-ready run count cache evicted false 0 e .0
+
+module _ (run : Run) (count : ℕ) (cache : List ℕ) where
   -- well formed or not
 
   pub ill-count : run .k < count → wellFormed run count cache ≡ false
@@ -92,14 +107,14 @@ module _ (run : Run) (count : ℕ) (cache evicted : List ℕ) where
   unfolding wellFormed
   ill-loads h = and-false-r _ _ (and-false-r _ _ (and-false-l _ _ (lt-leb _ _ h)))
 
-  pub ill-twice : distinct (take count cache) ≡ false → wellFormed run count cache ≡ false
-  unfolding wellFormed
-  ill-twice h = and-false-r _ _ (and-false-r _ _ (and-false-r _ _ h))
+  -- where the record and the count are right, the pages held decide
+  pub well-by : count ≤ run .k → run .evictions ≤ run .loads → run .loads ≤ run .requests → wellFormed run count cache ≡ distinct (take count cache)
+  unfolding wellFormed _and_
+  well-by a b c = rw (le-leb _ _ a, le-leb _ _ b, le-leb _ _ c) refl
 
   pub well : count ≤ run .k → run .evictions ≤ run .loads → run .loads ≤ run .requests → distinct (take count cache) ≡ true
       → wellFormed run count cache ≡ true
-  unfolding wellFormed
-  well a b c d = and-i _ _ (le-leb _ _ a) (and-i _ _ (le-leb _ _ b) (and-i _ _ (le-leb _ _ c) d))
+  well a b c d = well-by a b c ∙ d
 
 -- The answer and the lists
 

@@ -4,21 +4,22 @@ use native.Mathlib.Omega.{arith}
 use mathlib.Core.Bool.{true, false}
 use mathlib.Core.List.{List, [], _∷_, _++_}
 use mathlib.Core.Path.{_≡_, refl, sym, ap, _∙_}
-use lib.Dec.{ltb}
+use lib.Dec.{eqb, ltb}
 use lib.ListN.{length, take, drop, length-append, length-drop}
-use lib.Seq.{length-take-le}
-use borrow.Author.Tests.{lt-ltb, le-ltb, ltb-true, ltb-false}
+use lib.Seq.{length-take-le, take-take}
+use borrow.Author.Tests.{lt-ltb, le-ltb, ltb-true, ltb-false, eqb-true}
 use Rattle.lists.specs.Pages.{mem, toEnd}
 use Rattle.lists.specs.Places.{place, movedToEnd}
-use Rattle.lists.proofs.Choice.{cases}
+use Rattle.lists.proofs.Choice.{cases, tests}
 use Rattle.lists.proofs.Leaves.{mem-place, length-moved, moved-toEnd}
 use Rattle.lists.proofs.Pages.{eraseAll-take}
-use Rattle.lru.specs.Serving.{laid, countedRun, cacheServed, evictedServed, replyServed}
+use Rattle.lru.specs.Serving.{cacheServed, evictedServed, replyServed}
 use Rattle.lru.specs.declared.Reply.{Reply}
 use Rattle.lru.specs.declared.Run.{Run}
+use Rattle.lru.specs.declared.serving.Found.{Found}
 use Rattle.lru.specs.declared.serving.Found.the-variants.{Held, Room, Full}
-use Rattle.lru.specs.inner.Cases.{foundIn, loaded, bundleOver}
-use Rattle.lru.specs.inner.Ready.{RequestReady}
+use Rattle.lru.specs.inner.Cases.{foundIn, replyFor, evictedFor, cacheFor}
+use Rattle.lru.specs.inner.Ready.{RequestReady, AnswerReady, SettleReady}
 
 -- Finding
 
@@ -59,7 +60,7 @@ module _ (k page : ℕ) (held : List ℕ) where
       (λ r. let e′ = rw (m, r) at e in never (cc))
       (λ r. (m, ltb-false _ _ r)))
 
--- Writing and answering: y and v are the cache list and the evicted list as they were left, r the record
+-- Writing and answering: y and v are the cache list and the evicted list as they were left
 
 -- what the step promises of its answer and of the two lists
 abbrev pub Served : (run : Run) (count : ℕ) (cache evicted : List ℕ) (page : ℕ) → Reply → (y v : List ℕ) → Type 0
@@ -68,41 +69,67 @@ Served run count cache evicted page reply y v =
     × ((y ≡ cacheServed run count cache page) × (v ≡ evictedServed run count cache evicted page))
 
 module _ (run : Run) (count : ℕ) (cache evicted : List ℕ) (page : ℕ) (ready : RequestReady run count cache evicted) where
-  pub length-held : length (take count cache) ≡ count
+  length-held : length (take count cache) ≡ count
   length-held = length-take-le count cache (omega arith)
 
-  pub served-hit : (at : ℕ) (y : List ℕ) (r : Run) → foundIn (run .k) page (take count cache) ≡ Held at
-      → y ≡ laid (run .k) (movedToEnd at (take count cache)) cache → r ≡ countedRun run 0 0
-      → Served run count cache evicted page (record { refusal = 0; run = r; count = count; answer = 0 }) y evicted
-  served-hit at y r f e q =
+  -- what is told and written for what was found is what the definitions say
+  served-by : (found : Found) → found ≡ foundIn (run .k) page (take count cache)
+      → Served run count cache evicted page (replyFor found run count) (cacheFor found count (run .k) (run .a) page cache) (evictedFor found (run .a) cache evicted)
+  served-by (Held at) f =
       let held = take count cache in
-      let t = held-told (run .k) page held at f in
+      let t = held-told (run .k) page held at (sym f) in
       let m : mem page held ≡ true = t .0 in
       let w : movedToEnd at held ≡ toEnd page held =
       ap (λ (x : ℕ). movedToEnd x held) (t .1) ∙ moved-toEnd page held (ready .once) m in
       let n : length (toEnd page held) ≡ count = sym (ap length w) ∙ length-moved at held ∙ length-held in
-      (rw (m, q, n) refl, (rw (m, e, w) refl, rw m refl))
-
-  pub served-load : (y v : List ℕ) (r : Run) → foundIn (run .k) page (take count cache) ≡ Room
-      → y ≡ laid (run .k) (loaded 0 page (take count cache)) cache → v ≡ bundleOver 0 (take count cache) evicted → r ≡ countedRun run 1 0
-      → Served run count cache evicted page (record { refusal = 0; run = r; count = count + 1; answer = 1 }) y v
-  served-load y v r f e w q =
+      (rw (m, n) refl, (rw (m, w) refl, rw m refl))
+  served-by Room f =
       let held = take count cache in
-      let t = room-told (run .k) page held f in
+      let t = room-told (run .k) page held (sym f) in
       let n : length (held ++ (page ∷ [])) ≡ count + 1 = simp (length-append, length-held) refl in
-      (rw (t .0, lt-ltb _ _ (t .1), q, n) refl, (rw (t .0, lt-ltb _ _ (t .1), e) refl, rw (t .0, lt-ltb _ _ (t .1), w) refl))
-
-  pub served-bundle : (y v : List ℕ) (r : Run) → foundIn (run .k) page (take count cache) ≡ Full
-      → y ≡ laid (run .k) (loaded (run .a) page (take count cache)) cache → v ≡ bundleOver (run .a) (take count cache) evicted
-      → r ≡ countedRun run 1 1
-      → Served run count cache evicted page (record { refusal = 0; run = r; count = count - run .a + 1; answer = 2 }) y v
-  served-bundle y v r f e w q =
+      (rw (t .0, lt-ltb _ _ (t .1), n) refl, (rw (t .0, lt-ltb _ _ (t .1)) refl, rw (t .0, lt-ltb _ _ (t .1)) refl))
+  served-by Full f =
       let held = take count cache in
-      let t = full-told (run .k) page held f in
-      let n : length (drop (run .a) held ++ (page ∷ [])) ≡ count - run .a + 1 = simp (length-append, length-drop, length-held) refl in (
-        rw (t .0, le-ltb _ _ (t .1), q, eraseAll-take (run .a) held, n) refl,
+      let t = full-told (run .k) page held (sym f) in
+      let n : length (drop (run .a) held ++ (page ∷ [])) ≡ count - run .a + 1 = simp (length-append, length-drop, length-held) refl in
+      let b : take (run .a) held ≡ take (run .a) cache = take-take (run .a) count cache (omega (arith, length-held, ready .sizes .a-high)) in (
+        rw (t .0, le-ltb _ _ (t .1), eraseAll-take (run .a) held, n) refl,
         (
-          rw (t .0, le-ltb _ _ (t .1), e, eraseAll-take (run .a) held) refl,
-          rw (t .0, le-ltb _ _ (t .1), w) refl,
+          rw (t .0, le-ltb _ _ (t .1), eraseAll-take (run .a) held) refl,
+          rw (t .0, le-ltb _ _ (t .1), b) refl,
         ),
       )
+
+  -- the steps one after the other
+  pub acted : (found : Found) (reply : Reply) (y v : List ℕ) → found ≡ foundIn (run .k) page (take count cache) → reply ≡ replyFor found run count
+      → y ≡ cacheFor found count (run .k) (run .a) page cache → v ≡ evictedFor found (run .a) cache evicted
+      → Served run count cache evicted page reply y v
+  acted found reply y v f r c e =
+      let s = served-by found f in
+      (r ∙ s .0, (c ∙ s .1 .0, e ∙ s .1 .1))
+
+  -- and each may be made
+  pub can-settle : (found : Found) → found ≡ foundIn (run .k) page (take count cache) → SettleReady found count (run .k) (run .a) cache
+  can-settle found f =
+      record {
+        count-most = ready .count-most;
+        cache-room = ready .cache-room;
+        free = λ e. let t = room-told (run .k) page (take count cache) (sym f ∙ e) .1 in omega (arith, length-held);
+        enough = λ e.
+            let t = full-told (run .k) page (take count cache) (sym f ∙ e) .1 in
+            (ready .sizes .a-low, omega (arith, length-held, ready .sizes .a-high));
+      }
+
+  pub can-answer : (found : Found) → run .requests < 4294967296 → found ≡ foundIn (run .k) page (take count cache) → AnswerReady found run count
+  can-answer found wide f =
+      let further = ready .further in
+      let requests : run .requests < 4294967295 = cases (eqb (run .requests) 4294967295) (λ e. absurd (further (eqb-true _ _ e))) (λ e. omega tests) in
+      record {
+        fits = record {
+          requests-fit = requests;
+          loads-fit = omega (arith, ready .loads-most);
+          evictions-fit = omega (arith, ready .loads-most, ready .evictions-most);
+        };
+        count-most = omega (arith, ready .count-most, ready .sizes .k-high);
+        enough = λ e. can-settle found f .enough e .1;
+      }

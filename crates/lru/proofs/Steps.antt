@@ -20,7 +20,7 @@ use Rattle.paging.specs.Policy.{Kind, hit, load, bundled, kindOf, isLoad, isBun
 use Rattle.paging.specs.Refusals.{refuse, traceRefusal, SizesRight}
 use Rattle.paging.proofs.Refusals.{sizes-taken}
 use Rattle.paging.proofs.Runs.{holds-append, kinds-append, lru-holds-any, lru-kinds-any}
-use Rattle.lru.specs.Calls.{requestRefusal, replyOf, cacheOf, totalsOf}
+use Rattle.lru.specs.Calls.{runRefusal, requestRefusal, replyOf, cacheOf, totalsOf}
 use Rattle.lru.specs.Serving.{emptyRun, heldAfter, kindIn, runServed, cacheServed, replyServed}
 use Rattle.lru.specs.Standing.{runOver, Stands, Call, State, emptyState, accepts, afterCall, called, afterCalls, acceptedPages, pagesOf, roomy}
 use Rattle.lru.specs.declared.Reply.{Reply}
@@ -109,9 +109,9 @@ module _ {k a : ℕ} {trace : List ℕ} {run : Run} {count : ℕ} {cache : List 
 
   pub stands-refusal : (evicted : List ℕ) → requestRefusal run count cache evicted
       ≡ refuse (ltb (length cache) k or ltb (length evicted) a) 8 (refuse (eqb (length trace) 4294967295) 12 0)
-  unfolding requestRefusal
+  unfolding runRefusal _or_
   stands-refusal evicted =
-      let w = well run count cache evicted (rw k-is (s .count-most)) (s .evictions-most) (s .loads-most) (s .once) in
+      let w = well run count cache (rw k-is (s .count-most)) (s .evictions-most) (s .loads-most) (s .once) in
       let z : SizesRight (run .k) (run .a) =
       rw (k-is, a-is) (s .sizes) in
       sizes-taken (run .k) (run .a) z _ ∙ rw (w, s .record-is) refl

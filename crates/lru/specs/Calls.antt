@@ -1,7 +1,7 @@
 -- The call, for any record, count and lists: its refusals (document 01, "Who can cause a refusal" and "Well formed"), and what it
 -- answers and leaves. A refusal is its number with zeros elsewhere, and changes nothing.
 use Prim.Native.Nat.{ℕ}
-use mathlib.Core.Bool.{Bool, not}
+use mathlib.Core.Bool.{Bool, false, not}
 use mathlib.Core.List.{List}
 use lib.Dec.{eqb, leb, ltb}
 use lib.ListN.{length, take}
@@ -23,12 +23,18 @@ wellFormed run count cache =
     and leb (run .loads) (run .requests)
     and distinct (take count cache)
 
-unfoldable pub requestRefusal : Run → (count : ℕ) → (cache evicted : List ℕ) → ℕ
-requestRefusal run count cache evicted =
+-- the refusals of every call on this state, in order: 1, 2, 8, 9, 12, then the call's own. `ill` is a further reason for 9
+unfoldable pub runRefusal : Run → (count : ℕ) → (cache evicted : List ℕ) → (ill : Bool) → (rest : ℕ) → ℕ
+runRefusal run count cache evicted ill rest =
     sizesRefusal (run .k) (run .a)
     (refuse (ltb (length cache) (run .k) or ltb (length evicted) (run .a)) 8
-    (refuse (not (wellFormed run count cache)) 9
-    (refuse (eqb (run .requests) fullCounter) 12 0)))
+    (refuse (not (wellFormed run count cache) or ill) 9
+    (refuse (eqb (run .requests) fullCounter) 12
+    rest)))
+
+-- a request has none of its own
+abbrev pub requestRefusal : Run → (count : ℕ) → (cache evicted : List ℕ) → ℕ
+requestRefusal run count cache evicted = runRefusal run count cache evicted false 0
 
 abbrev pub refused : (number : ℕ) → Reply
 refused number = record { refusal = number; run = emptyRun 0 0; count = 0; answer = 0 }

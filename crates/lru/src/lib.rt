@@ -1,7 +1,9 @@
 // Least recent use (document 01, "LRU"): the call that a tracker makes, one request at a time, on a run record by value and two
 // lent lists; and LRU over a whole trace.
+ghost use Prim.Native.Nat.{_≤_};
 ghost use mathlib.Core.Path.{_≡_};
-ghost use Rattle.lru.specs.Calls.{requestRefusal, replyOf, cacheOf, evictedOf, totalsOf};
+ghost use lib.ListN.{length};
+ghost use Rattle.lru.specs.Calls.{wellFormed, runRefusal, replyOf, cacheOf, evictedOf, totalsOf};
 ghost use Rattle.lru.specs.Serving.{emptyRun};
 use paging::Sizes;
 
@@ -52,7 +54,7 @@ pub fn request(run: Run, count: u32, cache: &mut [u32], evicted: &mut [u32], pag
         × ((now (cache .exit) ≡ cacheOf run count (now (cache .entry)) (now (evicted .entry)) page)
         × (now (evicted .exit) ≡ evictedOf run count (now (cache .entry)) (now (evicted .entry)) page)) ⌝ }
 {
-    let number = refusal(run, count, cache, evicted);
+    let number = refusal(run, count, cache, evicted, false);
     if number != 0 {
         return Reply {
             refusal: number,
@@ -64,9 +66,9 @@ pub fn request(run: Run, count: u32, cache: &mut [u32], evicted: &mut [u32], pag
     serving::step(run, count, cache, evicted, page)
 }
 
-// The number of the first refusal that holds, in document 01's order, or 0.
-fn refusal(run: Run, count: u32, cache: &[u32], evicted: &[u32]) -> u32
-    ensures { λ r. ⌜ r ≡ requestRefusal run count (now (cache .entry)) (now (evicted .entry)) ⌝ }
+// The number of the first refusal that holds, in document 01's order, or 0. `ill` is a further reason for 9.
+fn refusal(run: Run, count: u32, cache: &[u32], evicted: &[u32], ill: bool) -> u32
+    ensures { λ r. ⌜ r ≡ runRefusal run count (now (cache .entry)) (now (evicted .entry)) ill 0 ⌝ }
 {
     let k = run.k;
     let a = run.a;
@@ -80,22 +82,33 @@ fn refusal(run: Run, count: u32, cache: &[u32], evicted: &[u32]) -> u32
     if evicted.len() < a as usize {
         return 8;
     }
-    if count > k {
+    if well_formed(run, count, cache) {} else {
         return 9;
+    }
+    if ill {
+        return 9;
+    }
+    if run.requests == Run::COUNTER_MAX {
+        return 12;
+    }
+    0
+}
+
+// Whether the record, the count and the cache list, which has k places, are well formed.
+fn well_formed(run: Run, count: u32, cache: &[u32]) -> bool
+    requires { ⌜ run .k ≤ length (now cache) ⌝ }
+    ensures { λ r. ⌜ r ≡ wellFormed run count (now (cache .entry)) ⌝ }
+{
+    if count > run.k {
+        return false;
     }
     if run.evictions > run.loads {
-        return 9;
+        return false;
     }
     if run.loads > run.requests {
-        return 9;
+        return false;
     }
-    if repeats::no_page_twice_in_buffer(&cache[..count as usize]) {
-        if run.requests == Run::COUNTER_MAX {
-            return 12;
-        }
-        return 0;
-    }
-    9
+    repeats::no_page_twice_in_buffer(&cache[..count as usize])
 }
 
 // What LRU comes to over a trace: bundles and loads; or the refusal's number, and zeros.

@@ -1,12 +1,13 @@
-// Serving one request: find, decide, then write. No check here: whoever calls keeps the state ready.
+// Serving one request: what it finds is decided first, then the lists are written and the answer is told. No check here: whoever calls keeps the
+// state ready.
 ghost use Prim.Native.Nat.{_-_, _≤_, _<_};
 ghost use mathlib.Core.Path.{_≡_};
 ghost use lib.ListN.{length, take};
 ghost use Rattle.lists.specs.Places.{movedToEnd};
 ghost use Rattle.lru.specs.Serving.{laid, countedRun, cacheServed, evictedServed, replyServed};
 ghost use Rattle.lru.specs.Standing.{runOver};
-ghost use Rattle.lru.specs.inner.Cases.{foundIn, loaded, bundleOver};
-ghost use Rattle.lru.specs.inner.Ready.{RequestReady, CountersFit, TraceReady};
+ghost use Rattle.lru.specs.inner.Cases.{foundIn, loaded, replyFor, evictedFor, cacheFor};
+ghost use Rattle.lru.specs.inner.Ready.{RequestReady, AnswerReady, SettleReady, CountersFit, TraceReady};
 use crate::Reply;
 use crate::Run;
 
@@ -17,7 +18,7 @@ pub enum Found {
     Full,
 }
 
-// One request on a state that is ready for it.
+// One request on a state that is ready for it: found, then served.
 pub(crate) fn step(run: Run, count: u32, cache: &mut [u32], evicted: &mut [u32], page: u32) -> Reply
     requires { ⌜ RequestReady run count (now cache) (now evicted) ⌝ }
     ensures { λ r. ⌜ (r ≡ replyServed run count (now (cache .entry)) page)
@@ -25,37 +26,29 @@ pub(crate) fn step(run: Run, count: u32, cache: &mut [u32], evicted: &mut [u32],
         × (now (evicted .exit) ≡ evictedServed run count (now (cache .entry)) (now (evicted .entry)) page)) ⌝ }
 {
     let k = run.k;
-    let a = run.a;
     let found = decide(k as usize, &cache[..count as usize], page);
-    match found {
-        Found::Held(at) => {
-            hit(cache, count as usize, k as usize, at);
-            Reply {
-                refusal: 0,
-                run: counted(run, 0, 0),
-                count,
-                answer: 0,
-            }
-        }
-        Found::Room => {
-            load(cache, evicted, count as usize, k as usize, 0, page);
-            Reply {
-                refusal: 0,
-                run: counted(run, 1, 0),
-                count: count + 1,
-                answer: 1,
-            }
-        }
-        Found::Full => {
-            load(cache, evicted, count as usize, k as usize, a as usize, page);
-            Reply {
-                refusal: 0,
-                run: counted(run, 1, 1),
-                count: count - a + 1,
-                answer: 2,
-            }
-        }
-    }
+    act(found, run, count, cache, evicted, page)
+}
+
+// Serves a request that was found to be this: the bundle goes into the evicted list, the page into the cache list, and the answer is told.
+pub(crate) fn act(
+    found: Found,
+    run: Run,
+    count: u32,
+    cache: &mut [u32],
+    evicted: &mut [u32],
+    page: u32,
+) -> Reply
+    requires { ⌜ RequestReady run count (now cache) (now evicted) × (found ≡ foundIn (run .k) page (take count (now cache))) ⌝ }
+    ensures { λ r. ⌜ (r ≡ replyServed run count (now (cache .entry)) page)
+        × ((now (cache .exit) ≡ cacheServed run count (now (cache .entry)) page)
+        × (now (evicted .exit) ≡ evictedServed run count (now (cache .entry)) (now (evicted .entry)) page)) ⌝ }
+{
+    let k = run.k as usize;
+    let a = run.a as usize;
+    evict(found, a, cache, evicted);
+    settle(found, count as usize, k, a, cache, page);
+    answered(found, run, count)
 }
 
 // The record after a trace, from the empty buffer. The state stays ready, so that no request is checked.
@@ -105,6 +98,65 @@ pub(crate) fn decide(k: usize, held: &[u32], page: u32) -> Found
     Found::Full
 }
 
+// What the request answers.
+fn answered(found: Found, run: Run, count: u32) -> Reply
+    requires { ⌜ AnswerReady found run count ⌝ }
+    ensures { λ r. ⌜ r ≡ replyFor found run count ⌝ }
+{
+    match found {
+        Found::Held(_) => Reply {
+            refusal: 0,
+            run: counted(run, 0, 0),
+            count,
+            answer: 0,
+        },
+        Found::Room => Reply {
+            refusal: 0,
+            run: counted(run, 1, 0),
+            count: count + 1,
+            answer: 1,
+        },
+        Found::Full => Reply {
+            refusal: 0,
+            run: counted(run, 1, 1),
+            count: count - run.a + 1,
+            answer: 2,
+        },
+    }
+}
+
+// The bundle in the evicted list, where there is one.
+fn evict(found: Found, a: usize, cache: &[u32], evicted: &mut [u32])
+    requires { ⌜ (a ≤ length (now cache)) × (a ≤ length (now evicted)) ⌝ }
+    ensures { λ _. ⌜ now (evicted .exit) ≡ evictedFor found a (now (cache .entry)) (now (evicted .entry)) ⌝ }
+{
+    match found {
+        Found::Held(_) => {}
+        Found::Room => {}
+        Found::Full => {
+            lists::moves::copy(&cache[..a], evicted);
+        }
+    }
+}
+
+// The cache list with the page in it. Of the n pages held the bundle's go.
+fn settle(found: Found, n: usize, k: usize, a: usize, cache: &mut [u32], page: u32)
+    requires { ⌜ SettleReady found n k a (now cache) ⌝ }
+    ensures { λ _. ⌜ now (cache .exit) ≡ cacheFor found n k a page (now (cache .entry)) ⌝ }
+{
+    match found {
+        Found::Held(at) => {
+            hit(cache, n, k, at);
+        }
+        Found::Room => {
+            load(cache, n, k, 0, page);
+        }
+        Found::Full => {
+            load(cache, n, k, a, page);
+        }
+    }
+}
+
 // A hit: of the n pages held, the one at the place becomes the most recent.
 fn hit(cache: &mut [u32], n: usize, k: usize, at: usize)
     requires { ⌜ (n ≤ k) × (k ≤ length (now cache)) ⌝ }
@@ -114,13 +166,11 @@ fn hit(cache: &mut [u32], n: usize, k: usize, at: usize)
     lists::moves::fill_zero(&mut cache[n..k]);
 }
 
-// A load: of the n pages held, the first `out` go into the evicted list, and the page becomes the most recent.
-fn load(cache: &mut [u32], evicted: &mut [u32], n: usize, k: usize, out: usize, page: u32)
-    requires { ⌜ (n ≤ k) × ((k ≤ length (now cache)) × ((out ≤ n) × ((out ≤ length (now evicted)) × (n - out < k)))) ⌝ }
-    ensures { λ r. ⌜ (now (cache .exit) ≡ laid k (loaded out page (take n (now (cache .entry)))) (now (cache .entry)))
-        × (now (evicted .exit) ≡ bundleOver out (take n (now (cache .entry))) (now (evicted .entry))) ⌝ }
+// A load: of the n pages held, the first `out` go, and the page becomes the most recent.
+fn load(cache: &mut [u32], n: usize, k: usize, out: usize, page: u32)
+    requires { ⌜ (n ≤ k) × ((k ≤ length (now cache)) × ((out ≤ n) × (n - out < k))) ⌝ }
+    ensures { λ r. ⌜ now (cache .exit) ≡ laid k (loaded out page (take n (now (cache .entry)))) (now (cache .entry)) ⌝ }
 {
-    lists::moves::copy(&cache[..out], evicted);
     lists::moves::drop_first(&mut cache[..n], out);
     let last = n - out;
     cache[last] = page;

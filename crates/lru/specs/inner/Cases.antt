@@ -1,22 +1,37 @@
--- What the code finds before it changes a list: the request's kind, with the page's place where it is held; and what a load then does.
-use Prim.Native.Nat.{ℕ}
+-- What the code finds before it changes a list: the request's kind, with the page's place where it is held; and what it then tells and writes.
+use Prim.Native.Nat.{ℕ, _+_, _-_}
 use mathlib.Core.List.{List, [], _∷_, _++_}
 use lib.Dec.{ltb}
 use lib.ListN.{length, take, drop}
 use Rattle.lists.specs.Choice.{pick}
 use Rattle.lists.specs.Pages.{mem}
-use Rattle.lists.specs.Places.{place}
+use Rattle.lists.specs.Places.{place, movedToEnd}
+use Rattle.lru.specs.Serving.{countedRun, laid}
+use Rattle.lru.specs.declared.Reply.{Reply}
+use Rattle.lru.specs.declared.Run.{Run}
 use Rattle.lru.specs.declared.serving.Found.{Found}
 use Rattle.lru.specs.declared.serving.Found.the-variants.{Held, Room, Full}
 
 abbrev pub foundIn : (k page : ℕ) → (held : List ℕ) → Found
 foundIn k page held = pick (mem page held) (Held (place page held)) (pick (ltb (length held) k) Room Full)
 
--- What a load does to the lists: the first `out` pages go as a bundle, least recent first; then the page is added. A load without a
--- bundle is the case 0.
-
+-- the pages held after a load: the first `out` go as a bundle, least recent first; then the page is added. A load without a bundle is the case 0
 abbrev pub loaded : (out page : ℕ) → (held : List ℕ) → List ℕ
 loaded out page held = drop out held ++ (page ∷ [])
 
-abbrev pub bundleOver : (out : ℕ) → (held evicted : List ℕ) → List ℕ
-bundleOver out held evicted = take out held ++ drop out evicted
+-- What is told and written for what was found
+
+abbrev pub replyFor : Found → Run → (count : ℕ) → Reply
+replyFor (Held at) run count = record { refusal = 0; run = countedRun run 0 0; count = count; answer = 0 }
+replyFor Room run count = record { refusal = 0; run = countedRun run 1 0; count = count + 1; answer = 1 }
+replyFor Full run count = record { refusal = 0; run = countedRun run 1 1; count = count - run .a + 1; answer = 2 }
+
+abbrev pub evictedFor : Found → (a : ℕ) → (cache evicted : List ℕ) → List ℕ
+evictedFor (Held at) a cache evicted = evicted
+evictedFor Room a cache evicted = evicted
+evictedFor Full a cache evicted = take a cache ++ drop a evicted
+
+abbrev pub cacheFor : Found → (n k a page : ℕ) → (cache : List ℕ) → List ℕ
+cacheFor (Held at) n k a page cache = laid k (movedToEnd at (take n cache)) cache
+cacheFor Room n k a page cache = laid k (loaded 0 page (take n cache)) cache
+cacheFor Full n k a page cache = laid k (loaded a page (take n cache)) cache

@@ -5,8 +5,10 @@ use mathlib.Core.List.{List}
 use mathlib.Core.Path.{_≡_}
 use lib.ListN.{length, take}
 use Rattle.lists.specs.Pages.{distinct}
-use Rattle.paging.specs.Refusals.{SizesRight, longestTrace, fullCounter}
+use Rattle.paging.specs.Refusals.{SizesRight, largestK, longestTrace, fullCounter}
 use Rattle.lru.specs.declared.Run.{Run}
+use Rattle.lru.specs.declared.serving.Found.{Found}
+use Rattle.lru.specs.declared.serving.Found.the-variants.{Room, Full}
 
 pub record RequestReady (run : Run) (count : ℕ) (cache evicted : List ℕ) : Type 0 where
   pub sizes : SizesRight (run .k) (run .a)
@@ -23,6 +25,19 @@ pub record CountersFit (run : Run) (loads bundles : ℕ) : Type 0 where
   pub requests-fit : run .requests < fullCounter
   pub loads-fit : run .loads + loads < 4294967296
   pub evictions-fit : run .evictions + bundles < 4294967296
+
+-- what was found can be answered
+pub record AnswerReady (found : Found) (run : Run) (count : ℕ) : Type 0 where
+  pub fits : CountersFit run 1 1
+  pub count-most : count ≤ largestK
+  pub enough : found ≡ Full → run .a ≤ count
+
+-- and the page settled among the n pages held
+pub record SettleReady (found : Found) (n k a : ℕ) (cache : List ℕ) : Type 0 where
+  pub count-most : n ≤ k
+  pub cache-room : k ≤ length cache
+  pub free : found ≡ Room → n < k
+  pub enough : found ≡ Full → (1 ≤ a) × (a ≤ n)
 
 -- sizes and a trace that are not refused
 pub record TraceReady (k a : ℕ) (trace : List ℕ) : Type 0 where
