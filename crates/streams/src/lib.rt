@@ -1,5 +1,7 @@
 // The standard input and output of a program. Where the system fails, a line on standard error says so, the input is not taken for whole, and
 // nothing more is written. No contract can say what is read or written: what a program prints is tested.
+ghost use mathlib.Core.Bool.{true, false};
+ghost use mathlib.Core.Path.{_≡_};
 ghost use Rattle.io.specs.Counts.{Counts};
 
 // How many bytes were read, and whether a read failed.
@@ -41,11 +43,16 @@ pub struct Output {
 
 impl Output {
     // Nothing is written yet.
-    pub fn new() -> Output {
+    pub fn new() -> Output
+        ensures { λ r. ⌜ r .failed ≡ false ⌝ }
+    {
         Output { failed: false }
     }
 
-    pub fn text(self, bytes: &[u8]) -> Output {
+    // The bytes, unless a write has failed before: that stays so.
+    pub fn text(self, bytes: &[u8]) -> Output
+        ensures { λ r. ⌜ (self .failed ≡ true → r .failed ≡ true) ⌝ }
+    {
         if self.failed {
             return self;
         }
@@ -57,13 +64,17 @@ impl Output {
     }
 
     // A space and a number in decimal.
-    pub fn field(self, n: u32) -> Output {
+    pub fn field(self, n: u32) -> Output
+        ensures { λ r. ⌜ (self .failed ≡ true → r .failed ≡ true) ⌝ }
+    {
         let mut digits = [0u8; 20];
         let count = io::decimal(n as u64, &mut digits);
         self.text(b" ").text(&digits[..count])
     }
 
-    pub fn end_line(self) -> Output {
+    pub fn end_line(self) -> Output
+        ensures { λ r. ⌜ (self .failed ≡ true → r .failed ≡ true) ⌝ }
+    {
         self.text(b"\n")
     }
 }
