@@ -3,7 +3,8 @@
 //   length  an EV's length
 //   write   a writer for each record, into lent bytes from an offset
 //   put     below the writers: a record at the start of the rest of the lent bytes
-// Whoever writes a file calls `write`. The other three are inner: crates of this repository call them, each after it has judged 4, 6, 8 and 9 itself.
+// Whoever writes a file calls `write`. The other three are inner: only crates of this repository call them. `kind` refuses by number itself; whoever calls
+// `length` or `put` has judged 6, 8 and 9 before.
 pub mod kind;
 pub mod length;
 pub mod put;
