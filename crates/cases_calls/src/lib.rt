@@ -1,4 +1,4 @@
-// The calls on pages of document 01, made with the numbers and lists of a row; each prints its answer.
+// The calls on pages of documents 01 and 02, made with the numbers and lists of a row; each prints its answer.
 //   traces      whole traces
 //   requests    single requests and questions
 use cases_rows::row::Numbers;
@@ -12,11 +12,15 @@ const MIN: u16 = b'm' as u16 + 256 * b'i' as u16;
 
 const LRU: u16 = b'l' as u16 + 256 * b'r' as u16;
 
+const OLDEST: u16 = b'o' as u16 + 256 * b'l' as u16;
+
 const LAYERS: u16 = b'l' as u16 + 256 * b'a' as u16;
 
 const STEPS: u16 = b's' as u16 + 256 * b't' as u16;
 
 const CACHE: u16 = b'c' as u16 + 256 * b'a' as u16;
+
+const LOAD: u16 = b'l' as u16 + 256 * b'o' as u16;
 
 const TABLE: u16 = b't' as u16 + 256 * b'a' as u16;
 
@@ -39,9 +43,11 @@ pub fn answer(
     match call {
         MIN => traces::min(n, first),
         LRU => traces::lru(n, first),
+        OLDEST => traces::fifo(n, first),
         LAYERS => traces::layers(n, first, second, third),
         STEPS => traces::steps(n, first, second, third),
-        CACHE => requests::cache(n, first, second),
+        CACHE => requests::lru(n, first, second),
+        LOAD => requests::fifo(n, first, second),
         TABLE => requests::table(n, first, second),
         REVEALED => requests::revealed(n, first, second),
         POSSIBLE => requests::possible(n, first, second, third),

@@ -3,20 +3,28 @@ use cases_rows::row::Numbers;
 use cases_rows::show;
 use layers::LayersRun;
 use layers::PossibleAnswer;
-use lru::Reply;
-use lru::Run;
+use queue::Reply;
+use queue::Run;
 
-// An LRU request: k, a, requests, loads, evictions, count, page; the cache and the evicted list.
-pub(crate) fn cache(n: Numbers, cache: &mut [u32], evicted: &mut [u32]) {
-    let run = Run {
+// An LRU request: the record, count, page; the cache and the evicted list.
+pub(crate) fn lru(n: Numbers, cache: &mut [u32], evicted: &mut [u32]) {
+    answered(lru::request(run(n), n.5, cache, evicted, n.6));
+}
+
+// An oldest load request: the same.
+pub(crate) fn fifo(n: Numbers, cache: &mut [u32], evicted: &mut [u32]) {
+    answered(fifo::request(run(n), n.5, cache, evicted, n.6));
+}
+
+// Their record: k, a, requests, loads, evictions.
+fn run(n: Numbers) -> Run {
+    Run {
         k: n.0,
         a: n.1,
         requests: n.2,
         loads: n.3,
         evictions: n.4,
-    };
-    let reply = lru::request(run, n.5, cache, evicted, n.6);
-    answered(reply);
+    }
 }
 
 pub(crate) fn answered(reply: Reply) {

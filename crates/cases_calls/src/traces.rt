@@ -2,7 +2,7 @@
 use crate::requests;
 use cases_rows::row::Numbers;
 use cases_rows::show;
-use lru::Run;
+use queue::Run;
 
 pub(crate) fn min(n: Numbers, trace: &[u32]) {
     let r = min::count(n.0, n.1, trace);
@@ -11,6 +11,11 @@ pub(crate) fn min(n: Numbers, trace: &[u32]) {
 
 pub(crate) fn lru(n: Numbers, trace: &[u32]) {
     let r = lru::over_trace(n.0, n.1, trace);
+    show::answer(r.refusal, &[r.bundles, r.loads]);
+}
+
+pub(crate) fn fifo(n: Numbers, trace: &[u32]) {
+    let r = fifo::over_trace(n.0, n.1, trace);
     show::answer(r.refusal, &[r.bundles, r.loads]);
 }
 

@@ -1,5 +1,6 @@
--- Every row of the table of marked cases is right.
+-- Every row of the two tables of cases is right.
 use mathlib.Core.Bool.{true}
+use mathlib.Core.List.{_++_}
 use mathlib.Core.Path.{_≡_, refl}
 use Rattle.lists.specs.Choice.{_and_, _or_}
 use Rattle.lists.specs.Sorting.{rowBefore}
@@ -9,17 +10,17 @@ use Rattle.paging.specs.Same.{samePages, sameEntries}
 use Rattle.records.specs.Marks.{markOf, markAt}
 use Rattle.reading.specs.Files.{requestsFrom}
 use Rattle.reading.specs.Reading.{kaRead, rqRead, readTrace}
-use Rattle.lru.specs.Calls as lru
+use Rattle.queue.specs.Calls.{runRefusal, wellFormed}
 use Rattle.layers.specs.Calls.{stateRefusal, requestRefusal, requestReply, pagesNext, numbersNext}
 use Rattle.layers.specs.Formed.{isUnused, follows, layersWellFormed}
 use Rattle.layers.specs.Questions.{verdict, possibleRefusal}
 use Rattle.layers.specs.Traces.{earlyRefusal, traceTotals}
 use Rattle.report.specs.Calls.{figures, reportOf}
 use Rattle.report.specs.Traces.{traceFile}
-use Rattle.demands.specs.Cases.{allRight, markedCases}
+use Rattle.demands.specs.Cases.{allRight, markedCases, requestedCases}
 
-pub marked-cases-hold : allRight markedCases ≡ true
+pub marked-cases-hold : allRight (markedCases ++ requestedCases) ≡ true
 unfolding sameEntries samePages _and_ _or_ rowBefore farther sizesRefusal traceRefusal markOf markAt kaRead rqRead readTrace requestsFrom traceFile figures
-    reportOf lru.runRefusal lru.wellFormed isUnused follows layersWellFormed stateRefusal requestRefusal requestReply pagesNext numbersNext verdict
+    reportOf runRefusal wellFormed isUnused follows layersWellFormed stateRefusal requestRefusal requestReply pagesNext numbersNext verdict
     possibleRefusal earlyRefusal traceTotals
 marked-cases-hold = refl

@@ -1,17 +1,21 @@
 -- The comparisons of demand 3 hold, for every k from 1 to 256 and a from 1 to k.
-use Prim.Native.Nat.{ℕ, _≤_}
+use Prim.Native.Nat.{ℕ, _*_, _≤_}
 use native.Mathlib.Omega.{arith}
 use mathlib.Core.List.{List, []}
 use mathlib.Core.Path.{_≡_, refl, ap, sym, _∙_}
 use Rattle.paging.specs.Min.{bestCount}
+use Rattle.paging.specs.Refusals.{SizesRight}
+use Rattle.paging.specs.declared.Keeping.{Keeping}
+use Rattle.paging.specs.declared.Keeping.the-variants.{ByRequest, ByLoad}
 use Rattle.paging.proofs.Refusals.{trace-right}
+use Rattle.theory.specs.Factor.{ceilDiv}
 use Rattle.theory.proofs.Best.{min-serves, min-costs-best, serving-costs-best, layers-count-best}
-use Rattle.theory.proofs.Lru.{lru-within-factor}
+use Rattle.theory.proofs.Front.{front-within-factor, lru-within-factor, fifo-within-layers}
 use Rattle.theory.proofs.Possible.{possible-is-what-min-can-hold, min-holds-possible-sets}
 use Rattle.records.specs.Bytes.{traceBytes}
-use Rattle.lru.specs.Standing.{acceptedPages, emptyState}
-use Rattle.lru.specs.declared.Run.{Run}
-use Rattle.lru.proofs.Steps as lru
+use Rattle.queue.specs.Standing.{Call, acceptedPages, afterCalls, emptyState}
+use Rattle.queue.specs.declared.Run.{Run}
+use Rattle.queue.proofs.Steps.{calls-from-empty}
 use Rattle.layers.specs.declared.LayersRun.{LayersRun}
 use Rattle.layers.proofs.Steps.{yes-exactly}
 use Rattle.min.specs.Calls.{bytesRefusal, scheduleRefusal, scheduleWritten}
@@ -20,7 +24,9 @@ use Rattle.judging.specs.Answer.{cost, answerNumber}
 use Rattle.judging.specs.Files.{judged}
 use Rattle.judging.proofs.ExactFiles.{sound, complete}
 use Rattle.judging.proofs.Numbers.{refusals-are-numbered, number-is-cost}
-use Rattle.demands.specs.Demand3.{Compares, Demand3, minEntries}
+use Rattle.report.specs.Calls.{figures}
+use Rattle.report.proofs.Cases.{every-report}
+use Rattle.demands.specs.Demand3.{Compares, Demand3, WithinFactor, minEntries}
 use Rattle.demands.specs.LayersCalls.{layersStart, layersAfterCalls, layersTrace}
 use Rattle.demands.proofs.LayersLists.{list-stands}
 
@@ -43,6 +49,25 @@ judge-answers k a pos le small trace out e =
       costs = sym (min-costs-best k a pos le trace);
     })
 
+-- LRU and oldest load, over lists of calls
+
+calls-within-factor : (keeping : Keeping) (k a : ℕ) → 1 ≤ a → a ≤ k → k ≤ 256 → (cache : List ℕ) (calls : List Call)
+    → afterCalls keeping calls (emptyState k a cache) .run .evictions ≤ ceilDiv k a * bestCount k a (acceptedPages keeping calls (emptyState k a cache))
+calls-within-factor keeping k a pos le small cache calls =
+    let e = ap (λ (run : Run). run .evictions) (calls-from-empty keeping k a calls cache pos le small .record-is) in
+    rw e (front-within-factor keeping k a pos le (acceptedPages keeping calls (emptyState k a cache)))
+
+-- The bench's reports
+
+figures-within-factor : (k a : ℕ) (trace : List ℕ) → SizesRight k a → WithinFactor (figures k a trace)
+unfolding figures
+figures-within-factor k a trace right = (
+  rw (layers-count-best k a (right .a-low) (right .a-high) trace) (lru-within-factor k a (right .a-low) (right .a-high) trace),
+  fifo-within-layers k a (right .a-low) (right .a-high) trace,
+)
+
+-- All together
+
 pub compares : (k a : ℕ) → 1 ≤ a → a ≤ k → k ≤ 256 → Compares k a
 compares k a pos le small =
     record {
@@ -52,10 +77,13 @@ compares k a pos le small =
       layers-count-the-best = λ places calls.
           ap (λ (run : LayersRun). run .evictions) (list-stands k a pos le small places calls .run-is)
           ∙ layers-count-best k a pos le (layersTrace calls (layersStart k a places));
-      lru-stays-within-the-factor = λ cache calls.
-          let stands = lru.calls-stand k a calls [] (emptyState k a cache) (lru.stands-empty k a cache pos le small) in
-          let e = ap (λ (run : Run). run .evictions) (stands .record-is) in
-          omega (arith, e, lru-within-factor k a pos le (acceptedPages calls (emptyState k a cache)));
+      lru-stays-within-the-factor = calls-within-factor ByRequest k a pos le small;
+      oldest-load-stays-within-the-factor = calls-within-factor ByLoad k a pos le small;
+      oldest-load-within-the-layers-count = λ cache calls places layersCalls same.
+          let trace = layersTrace layersCalls (layersStart k a places) in
+          let counted = ap (λ (run : LayersRun). run .evictions) (list-stands k a pos le small places layersCalls .run-is) ∙ layers-count-best k a pos le trace in
+          let within = calls-within-factor ByLoad k a pos le small cache calls in
+          rw (counted) (rw same at within);
       possible-is-what-min-can-hold = λ places calls set once answer told.
           let x = layersAfterCalls calls (layersStart k a places) in
           let trace = layersTrace calls (layersStart k a places) in
@@ -78,4 +106,5 @@ demand-3-holds = record {
   compares = compares;
   judge-answers-a-legal-cost = λ trace schedule bt bs bundles e. sound trace schedule bundles bt bs (number-is-cost trace schedule bundles e);
   judge-refuses-by-number = refusals-are-numbered;
+  reports-stay-within-the-factor = every-report WithinFactor (λ number. (omega arith, omega arith)) figures-within-factor;
 }

@@ -1,5 +1,5 @@
--- The ten cases that document 01 marks for proof ("The eight-request shift"), as one table of inputs and results. A row's result is computed by the
--- definitions that the promises cite.
+-- The ten cases that document 01 marks for proof ("The eight-request shift"), and cases of document 02's requests, as tables of inputs and results.
+-- A row's result is computed by the definitions that the promises cite.
 use Prim.Native.Nat.{ℕ, zero, suc}
 use mathlib.Core.Bool.{Bool, true, false}
 use mathlib.Core.List.{List, [], _∷_, _++_}
@@ -10,9 +10,12 @@ use Rattle.paging.specs.Layers.{breaksAt}
 use Rattle.paging.specs.Rows.{rowsOf}
 use Rattle.paging.specs.Schedule.{Entry, ev}
 use Rattle.paging.specs.Same.{samePages, sameEntries, shift}
+use Rattle.paging.specs.declared.Keeping.{Keeping}
+use Rattle.paging.specs.declared.Keeping.the-variants.{ByRequest, ByLoad}
 use Rattle.records.specs.Bytes.{traceBytes}
-use Rattle.lru.specs.Calls as lru
-use Rattle.lru.specs.Standing.{Call, State, afterCalls, emptyState}
+use Rattle.queue.specs.Calls.{cacheOf, evictedOf, totalsOf}
+use Rattle.queue.specs.Serving.{emptyRun}
+use Rattle.queue.specs.Standing.{Call, State, afterCalls, emptyState}
 use Rattle.layers.specs.Calls.{requestRefusal}
 use Rattle.layers.specs.Questions.{Verdict, refusedWith, possibleSet, countDiffers, brokenAt, verdict, layersIn}
 use Rattle.layers.specs.Traces.{traceTotals}
@@ -27,8 +30,12 @@ pub data Row : Type 0 where
   reports : (file : List ℕ) (report : Report) → Row
   -- MIN's bundles
   minEvicts : (k a : ℕ) (pages : List ℕ) (entries : List Entry) → Row
-  -- after some pages, a request to LRU leaves this in an evicted list of a places
-  lruEvicts : (k a : ℕ) (pages : List ℕ) (page : ℕ) (bundle : List ℕ) → Row
+  -- after some pages, a request to LRU (by request) or oldest load (by load) leaves this in an evicted list of a places
+  evicts : Keeping → (k a : ℕ) (pages : List ℕ) (page : ℕ) (bundle : List ℕ) → Row
+  -- a request on an empty record, with a cache list and its count, leaves this cache list
+  leaves : Keeping → (k a count : ℕ) (cache : List ℕ) (page : ℕ) (left : List ℕ) → Row
+  -- bundles and loads of either over a trace
+  totals : Keeping → (k a : ℕ) (pages : List ℕ) (bundles loads : ℕ) → Row
   -- bundles of MIN, LRU and the layers over a trace, and s
   counted : (k a : ℕ) (pages : List ℕ) (byMin byLru byLayers s : ℕ) → Row
   -- the table after requests to the layers
@@ -40,13 +47,13 @@ pub data Row : Type 0 where
 
 -- Computed by the calls
 
--- LRU's calls for some pages, each lent an evicted list of so many places
-abbrev pub lruCalls : (places : ℕ) → List ℕ → List Call
-lruCalls places [] = []
-lruCalls places (p ∷ ps) = record { page = p; evicted = replicate places 0 } ∷ lruCalls places ps
+-- calls for some pages, each lent an evicted list of so many places
+abbrev pub callsFor : (places : ℕ) → List ℕ → List Call
+callsFor places [] = []
+callsFor places (p ∷ ps) = record { page = p; evicted = replicate places 0 } ∷ callsFor places ps
 
-abbrev pub lruAfter : (k a : ℕ) → List ℕ → State
-lruAfter k a pages = afterCalls (lruCalls a pages) (emptyState k a (replicate k 0))
+abbrev pub stateAfter : Keeping → (k a : ℕ) → List ℕ → State
+stateAfter keeping k a pages = afterCalls keeping (callsFor a pages) (emptyState k a (replicate k 0))
 
 abbrev pub layersCalls : List ℕ → List LayersCall
 layersCalls [] = []
@@ -67,6 +74,7 @@ sameReport x y =
     eqb (x .refusal) (y .refusal) and eqb (x .k) (y .k) and eqb (x .a) (y .a) and eqb (x .requests) (y .requests)
     and eqb (x .min .bundles) (y .min .bundles) and eqb (x .min .loads) (y .min .loads)
     and eqb (x .lru .bundles) (y .lru .bundles) and eqb (x .lru .loads) (y .lru .loads)
+    and eqb (x .fifo .bundles) (y .fifo .bundles) and eqb (x .fifo .loads) (y .fifo .loads)
     and eqb (x .layers .bundles) (y .layers .bundles) and eqb (x .layers .s) (y .layers .s) and eqb (x .layers .revealed) (y .layers .revealed)
 
 -- a verdict spelled as two numbers: its case, and the number that it holds
@@ -97,11 +105,14 @@ sameTests (x ∷ xs) (y ∷ ys) = sameTest x y and sameTests xs ys
 abbrev pub right : Row → Bool
 right (reports file report) = sameReport (reportOf file) report
 right (minEvicts k a pages entries) = sameEntries (minEntries k a pages) entries
-right (lruEvicts k a pages page bundle) =
-    let S = lruAfter k a pages in samePages (lru.evictedOf (S .run) (S .count) (S .cache) (replicate a 0) page) bundle
+right (evicts keeping k a pages page bundle) =
+    let S = stateAfter keeping k a pages in samePages (evictedOf (S .run) (S .count) (S .cache) (replicate a 0) page) bundle
+right (leaves keeping k a count cache page left) = samePages (cacheOf keeping (emptyRun k a) count cache (replicate a 0) page) left
+right (totals keeping k a pages bundles loads) =
+    let T = totalsOf keeping k a pages in eqb (T .bundles) bundles and eqb (T .loads) loads
 right (counted k a pages byMin byLru byLayers s) =
     let T = traceTotals k a pages (replicate 8 0) (replicate 8 0) in
-    eqb (countsOf k a pages .bundles) byMin and eqb (lru.totalsOf k a pages .bundles) byLru and eqb (T .bundles) byLayers and eqb (T .s) s
+    eqb (countsOf k a pages .bundles) byMin and eqb (totalsOf ByRequest k a pages .bundles) byLru and eqb (T .bundles) byLayers and eqb (T .s) s
 right (tabled k a places pages tablePages numbers) =
     let x = layersAt k a places pages in samePages (x .pages) tablePages and samePages (x .numbers) numbers
 right (asked k a places pages set said layers) =
@@ -114,14 +125,15 @@ right (refuses k a places pages page number) =
 
 abbrev pub markedCases : List Row
 markedCases =
-    -- 1. the four lines' numbers, of the shift's 54 bytes
-    reports (traceBytes 3 2 shift) (record { refusal = 0; k = 3; a = 2; requests = 8; min = counts 2 7; lru = counts 3 8; layers = layersCounts 2 3 2 })
+    -- 1. the four lines' numbers, of the shift's 54 bytes, and since document 02's request 01 the line `fifo`
+    reports (traceBytes 3 2 shift)
+    (record { refusal = 0; k = 3; a = 2; requests = 8; min = counts 2 7; lru = counts 3 8; fifo = counts 3 8; layers = layersCounts 2 3 2 })
     -- 2. MIN's bundles
     ∷ minEvicts 3 2 shift (ev 3 (3 ∷ 1 ∷ []) ∷ ev 6 (2 ∷ 4 ∷ []) ∷ [])
     -- 3. LRU's
-    ∷ lruEvicts 3 2 (take 3 shift) 4 (1 ∷ 2 ∷ [])
-    ∷ lruEvicts 3 2 (take 5 shift) 5 (3 ∷ 4 ∷ [])
-    ∷ lruEvicts 3 2 (take 7 shift) 1 (2 ∷ 5 ∷ [])
+    ∷ evicts ByRequest 3 2 (take 3 shift) 4 (1 ∷ 2 ∷ [])
+    ∷ evicts ByRequest 3 2 (take 5 shift) 5 (3 ∷ 4 ∷ [])
+    ∷ evicts ByRequest 3 2 (take 7 shift) 1 (2 ∷ 5 ∷ [])
     -- 4. layers at the end
     ∷ tabled 3 2 5 shift (2 ∷ 4 ∷ 5 ∷ 6 ∷ 1 ∷ []) (1 ∷ 1 ∷ 1 ∷ 2 ∷ 3 ∷ [])
     -- 5. after seven requests {5,6} is possible
@@ -144,6 +156,30 @@ markedCases =
     ∷ refuses 2 1 3 (1 ∷ 2 ∷ []) 3 0
     ∷ refuses 2 1 3 (1 ∷ 2 ∷ 3 ∷ []) 1 0
     ∷ refuses 2 1 3 (1 ∷ 2 ∷ 3 ∷ 1 ∷ []) 4 0
+    ∷ []
+
+-- cases of document 02, request by request
+abbrev pub requestedCases : List Row
+requestedCases =
+    -- 01. oldest load on the shift: its bundles are LRU's there
+    evicts ByLoad 3 2 (take 3 shift) 4 (1 ∷ 2 ∷ [])
+    ∷ evicts ByLoad 3 2 (take 5 shift) 5 (3 ∷ 4 ∷ [])
+    ∷ evicts ByLoad 3 2 (take 7 shift) 1 (2 ∷ 5 ∷ [])
+    ∷ totals ByLoad 3 2 shift 3 8
+    -- an empty trace
+    ∷ reports (traceBytes 3 2 []) (record { refusal = 0; k = 3; a = 2; requests = 0; min = counts 0 0; lru = counts 0 0; fifo = counts 0 0; layers = layersCounts 0 0 0 })
+    -- k 3, a 1, pages 1 2 3 1 4 1 tell the two apart: a hit moves no page
+    ∷ evicts ByRequest 3 1 (1 ∷ 2 ∷ 3 ∷ 1 ∷ []) 4 (2 ∷ [])
+    ∷ evicts ByLoad 3 1 (1 ∷ 2 ∷ 3 ∷ 1 ∷ []) 4 (1 ∷ [])
+    ∷ totals ByRequest 3 1 (1 ∷ 2 ∷ 3 ∷ 1 ∷ 4 ∷ 1 ∷ []) 1 4
+    ∷ totals ByLoad 3 1 (1 ∷ 2 ∷ 3 ∷ 1 ∷ 4 ∷ 1 ∷ []) 2 5
+    -- and pages 1 2 3 1 4 2 the other way round
+    ∷ totals ByRequest 3 1 (1 ∷ 2 ∷ 3 ∷ 1 ∷ 4 ∷ 2 ∷ []) 2 5
+    ∷ totals ByLoad 3 1 (1 ∷ 2 ∷ 3 ∷ 1 ∷ 4 ∷ 2 ∷ []) 1 4
+    -- a hit writes zeros from the count up to k, and keeps what stands past k
+    ∷ leaves ByLoad 3 1 1 (5 ∷ 9 ∷ 9 ∷ 9 ∷ []) 5 (5 ∷ 0 ∷ 0 ∷ 9 ∷ [])
+    ∷ leaves ByLoad 3 1 3 (1 ∷ 2 ∷ 3 ∷ []) 1 (1 ∷ 2 ∷ 3 ∷ [])
+    ∷ leaves ByRequest 3 1 3 (1 ∷ 2 ∷ 3 ∷ []) 1 (2 ∷ 3 ∷ 1 ∷ [])
     ∷ []
 
 abbrev pub allRight : List Row → Bool

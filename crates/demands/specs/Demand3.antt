@@ -1,4 +1,4 @@
--- Demand 3 (document 01, "What demand 3 compares"), whole: one record with a field for each of its sentences.
+-- Demand 3 (document 01, "What demand 3 compares"), whole: one record with a field for each of its sentences, and for each that document 02 adds.
 use Prim.Native.Nat.{ℕ, _*_, _≤_}
 use mathlib.Core.Bool.{true}
 use mathlib.Core.List.{List, []}
@@ -10,11 +10,12 @@ use Rattle.paging.specs.Min.{minRule, bestCount}
 use Rattle.paging.specs.Policy.{holds, bundles}
 use Rattle.paging.specs.Refusals.{largestK, traceRefusal}
 use Rattle.paging.specs.Schedule.{Entry, serves, entriesCost}
+use Rattle.paging.specs.declared.Keeping.the-variants.{ByRequest, ByLoad}
 use Rattle.theory.specs.Factor.{ceilDiv}
 use Rattle.theory.specs.Possible.{CanHold, HoldsJust}
 use Rattle.wire.specs.Numbers.{Bytes}
 use Rattle.records.specs.Bytes.{traceBytes, scheduleBytes}
-use Rattle.lru.specs.Standing.{Call, afterCalls, acceptedPages, emptyState}
+use Rattle.queue.specs.Standing.{Call, afterCalls, acceptedPages, emptyState}
 use Rattle.layers.specs.Questions.{PossibleTold}
 use Rattle.layers.specs.declared.PossibleAnswer.{PossibleAnswer}
 use Rattle.layers.specs.declared.PossibleAnswer.the-variants.{Yes}
@@ -22,6 +23,8 @@ use Rattle.min.specs.Calls.{countsOf, scheduleRefusal, scheduledOf, scheduleWri
 use Rattle.judging.specs.Answer.{refused, answerNumber}
 use Rattle.judging.specs.Files.{judged}
 use Rattle.judging.specs.LegalFiles.{LegalFiles}
+use Rattle.report.specs.Calls.{reportOf}
+use Rattle.report.specs.declared.Report.{Report}
 use Rattle.demands.specs.LayersCalls.{LayersCall, layersStart, layersAfterCalls, layersTrace}
 
 -- MIN's bundles of a trace as EVs
@@ -38,7 +41,14 @@ pub record Compares (k a : ℕ) : Type 0 where
       → layersAfterCalls calls (layersStart k a places) .run .evictions ≡ bestCount k a (layersTrace calls (layersStart k a places))
   -- "after an LRU list its record's evictions are at most k/a, rounded up, times the best count of its trace"
   pub lru-stays-within-the-factor : (cache : List ℕ) (calls : List Call)
-      → afterCalls calls (emptyState k a cache) .run .evictions ≤ ceilDiv k a * bestCount k a (acceptedPages calls (emptyState k a cache))
+      → afterCalls ByRequest calls (emptyState k a cache) .run .evictions ≤ ceilDiv k a * bestCount k a (acceptedPages ByRequest calls (emptyState k a cache))
+  -- document 02, request 01: "the k/a rounded up factor for it, from an empty buffer", for lists of oldest load, refused calls among them
+  pub oldest-load-stays-within-the-factor : (cache : List ℕ) (calls : List Call)
+      → afterCalls ByLoad calls (emptyState k a cache) .run .evictions ≤ ceilDiv k a * bestCount k a (acceptedPages ByLoad calls (emptyState k a cache))
+  -- "against the layers' count, as long as both have accepted every request of the trace": where the accepted pages are the same
+  pub oldest-load-within-the-layers-count : (cache : List ℕ) (calls : List Call) (places : ℕ) (layersCalls : List LayersCall)
+      → acceptedPages ByLoad calls (emptyState k a cache) ≡ layersTrace layersCalls (layersStart k a places)
+      → afterCalls ByLoad calls (emptyState k a cache) .run .evictions ≤ ceilDiv k a * layersAfterCalls layersCalls (layersStart k a places) .run .evictions
   -- "after a layers list a set, its pages each named once, in any order, is answered possible exactly if pages can be put behind the
   -- trace so that MIN's rule, on the whole, holds just that set after the trace's last request"
   pub possible-is-what-min-can-hold : (places : ℕ) (calls : List LayersCall) (set : List ℕ) → distinct set ≡ true
@@ -59,7 +69,13 @@ pub record Compares (k a : ℕ) : Type 0 where
   pub judge-answers-the-best-count : (trace out : List ℕ) → scheduleRefusal k a trace out ≡ 0
       → answerNumber (judged (traceBytes k a trace) (scheduleWritten k a trace out)) ≡ pos (bestCount k a trace)
 
--- the whole demand: the comparisons for every k from 1 to 256 and a from 1 to k, and the judge on any two files
+-- of a report: LRU's and oldest load's bundles are at most k/a, rounded up, times those that the layers count
+abbrev pub WithinFactor : Report → Type 0
+WithinFactor r =
+    (r .lru .bundles ≤ ceilDiv (r .k) (r .a) * r .layers .bundles)
+    × (r .fifo .bundles ≤ ceilDiv (r .k) (r .a) * r .layers .bundles)
+
+-- the whole demand: the comparisons for every k from 1 to 256 and a from 1 to k, the judge on any two files, and the bench on any input
 pub record Demand3 : Type 0 where
   pub compares : (k a : ℕ) → 1 ≤ a → a ≤ k → k ≤ largestK → Compares k a
   -- "two files for which the judge answers a cost are a trace and a legal schedule of it with that cost": the caller receives a number, and one at or above
@@ -68,3 +84,6 @@ pub record Demand3 : Type 0 where
       → answerNumber (judged trace schedule) ≡ pos bundles → LegalFiles trace schedule bundles
   -- and one below zero is a refusal's, from 1 to 7, made negative
   pub judge-refuses-by-number : (trace schedule : List ℕ) (number : ℕ) → judged trace schedule ≡ refused number → (1 ≤ number) × (number ≤ 7)
+  -- what a depot reads off the bench (document 02, request 01): of every report the lines `lru` and `fifo` are within the factor of the line `layers`. Of a
+  -- refused one all are zero
+  pub reports-stay-within-the-factor : (input : List ℕ) → WithinFactor (reportOf input)

@@ -1,20 +1,20 @@
 -- The fields of each answer that is a record, in the order in which a caller receives them: the refusal's number first, 0 for none.
 use Prim.Native.Nat.{ℕ}
 use mathlib.Core.List.{List, [], _∷_}
-use Rattle.lru.specs.declared.Reply.{Reply}
-use Rattle.lru.specs.declared.Totals.{Totals}
+use Rattle.queue.specs.declared.Reply.{Reply}
+use Rattle.queue.specs.declared.Totals.{Totals}
 use Rattle.min.specs.declared.Counts.{Counts}
 use Rattle.min.specs.declared.Scheduled.{Scheduled}
 use Rattle.layers.specs.declared.LayersReply.{LayersReply}
 use Rattle.layers.specs.declared.RevealedReply.{RevealedReply}
 use Rattle.layers.specs.declared.LayersTotals.{LayersTotals}
 
-abbrev pub lruReplyFields : Reply → List ℕ
-lruReplyFields r =
+abbrev pub queueReplyFields : Reply → List ℕ
+queueReplyFields r =
     r .refusal ∷ r .run .k ∷ r .run .a ∷ r .run .requests ∷ r .run .loads ∷ r .run .evictions ∷ r .count ∷ r .answer ∷ []
 
-abbrev pub lruTotalsFields : Totals → List ℕ
-lruTotalsFields r = r .refusal ∷ r .bundles ∷ r .loads ∷ []
+abbrev pub queueTotalsFields : Totals → List ℕ
+queueTotalsFields r = r .refusal ∷ r .bundles ∷ r .loads ∷ []
 
 abbrev pub countsFields : Counts → List ℕ
 countsFields r = r .refusal ∷ r .bundles ∷ r .loads ∷ []

@@ -1,10 +1,10 @@
 -- The records whose fields a caller hands over one by one.
 use Prim.Native.Nat.{ℕ}
-use Rattle.lru.specs.declared.Run.{Run}
+use Rattle.queue.specs.declared.Run.{Run}
 use Rattle.layers.specs.declared.LayersRun.{LayersRun}
 
-abbrev pub lruRun : (k a requests loads evictions : ℕ) → Run
-lruRun k a requests loads evictions =
+abbrev pub queueRun : (k a requests loads evictions : ℕ) → Run
+queueRun k a requests loads evictions =
     record { k = k; a = a; requests = requests; loads = loads; evictions = evictions }
 
 abbrev pub layersRun : (k a requests evictions s : ℕ) → LayersRun

@@ -4,13 +4,17 @@
 //   store         how fields are stored
 //   sizes         k and a
 //   lru_calls     least recent use, a request and a trace
+//   fifo_calls    oldest load first, the same
+//   queue_fields  the fields of their answers
 //   min_calls     farthest next use, its counts and its schedule
 //   layers_calls  the layers, a request, the questions and a trace
 //   reader_calls  what stands at an offset of a file
 //   writer_calls  a record into lent bytes
+mod fifo_calls;
 mod layers_calls;
 mod lru_calls;
 mod min_calls;
+mod queue_fields;
 mod reader_calls;
 mod sizes;
 mod store;

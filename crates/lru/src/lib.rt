@@ -1,139 +1,25 @@
-// Least recent use (document 01, "LRU"): the call that a tracker makes, one request at a time, on a run record by value and two
-// lent lists; and LRU over a whole trace.
-ghost use Prim.Native.Nat.{_≤_};
+// Least recent use (document 01, "LRU"): one request at a time and over a whole trace. The cache list runs from the least to the most recently
+// requested page, and a hit makes its page the most recent.
 ghost use mathlib.Core.Path.{_≡_};
-ghost use lib.ListN.{length};
-ghost use Rattle.lru.specs.Calls.{wellFormed, runRefusal, replyOf, cacheOf, evictedOf, totalsOf};
-ghost use Rattle.lru.specs.Serving.{emptyRun};
-use paging::Sizes;
+ghost use Rattle.paging.specs.declared.Keeping.the-variants.{ByRequest};
+ghost use Rattle.queue.specs.Calls.{replyOf, cacheOf, evictedOf, totalsOf};
+use paging::Keeping;
+use queue::Reply;
+use queue::Run;
+use queue::Totals;
 
-mod serving;
-
-// Document 01's run record.
-pub struct Run {
-    pub k: u32,
-    pub a: u32,
-    pub requests: u32,
-    pub loads: u32,
-    pub evictions: u32,
-}
-
-impl Run {
-    // The largest k.
-    pub const K_MAX: u32 = Sizes::K_MAX;
-
-    // At this many requests a further one is refused (12).
-    pub const COUNTER_MAX: u32 = paging::COUNTER_MAX;
-
-    // The empty start.
-    pub fn empty(k: u32, a: u32) -> Run
-        ensures { λ r. ⌜ r ≡ emptyRun k a ⌝ }
-    {
-        Run {
-            k,
-            a,
-            requests: 0,
-            loads: 0,
-            evictions: 0,
-        }
-    }
-}
-
-// What a request answers. Accepted: refusal 0, the new record and count, and 0 for a hit, 1 for a load, 2 for a load after a bundle.
-// Refused: the refusal's number, and zeros.
-pub struct Reply {
-    pub refusal: u32,
-    pub run: Run,
-    pub count: u32,
-    pub answer: u32,
-}
-
-// One request. The cache list runs from least to most recent, with its count beside it; the evicted list receives a bundle.
+// One request. The evicted list receives a bundle, least recent first.
 pub fn request(run: Run, count: u32, cache: &mut [u32], evicted: &mut [u32], page: u32) -> Reply
-    ensures { λ r. ⌜ (r ≡ replyOf run count (now (cache .entry)) (now (evicted .entry)) page)
-        × ((now (cache .exit) ≡ cacheOf run count (now (cache .entry)) (now (evicted .entry)) page)
+    ensures { λ r. ⌜ (r ≡ replyOf ByRequest run count (now (cache .entry)) (now (evicted .entry)) page)
+        × ((now (cache .exit) ≡ cacheOf ByRequest run count (now (cache .entry)) (now (evicted .entry)) page)
         × (now (evicted .exit) ≡ evictedOf run count (now (cache .entry)) (now (evicted .entry)) page)) ⌝ }
 {
-    let number = refusal(run, count, cache, evicted, false);
-    if number != 0 {
-        return Reply {
-            refusal: number,
-            run: Run::empty(0, 0),
-            count: 0,
-            answer: 0,
-        };
-    }
-    serving::step(run, count, cache, evicted, page)
+    queue::request(Keeping::ByRequest, run, count, cache, evicted, page)
 }
 
-// The number of the first refusal that holds, in document 01's order, or 0. `ill` is a further reason for 9.
-fn refusal(run: Run, count: u32, cache: &[u32], evicted: &[u32], ill: bool) -> u32
-    ensures { λ r. ⌜ r ≡ runRefusal run count (now (cache .entry)) (now (evicted .entry)) ill 0 ⌝ }
-{
-    let k = run.k;
-    let a = run.a;
-    let sizes = Sizes { k, a }.refusal();
-    if sizes != 0 {
-        return sizes;
-    }
-    if cache.len() < k as usize {
-        return 8;
-    }
-    if evicted.len() < a as usize {
-        return 8;
-    }
-    if well_formed(run, count, cache) {} else {
-        return 9;
-    }
-    if ill {
-        return 9;
-    }
-    if run.requests == Run::COUNTER_MAX {
-        return 12;
-    }
-    0
-}
-
-// Whether the record, the count and the cache list, which has k places, are well formed.
-fn well_formed(run: Run, count: u32, cache: &[u32]) -> bool
-    requires { ⌜ run .k ≤ length (now cache) ⌝ }
-    ensures { λ r. ⌜ r ≡ wellFormed run count (now (cache .entry)) ⌝ }
-{
-    if count > run.k {
-        return false;
-    }
-    if run.evictions > run.loads {
-        return false;
-    }
-    if run.loads > run.requests {
-        return false;
-    }
-    repeats::no_page_twice_in_buffer(&cache[..count as usize])
-}
-
-// What LRU comes to over a trace: bundles and loads; or the refusal's number, and zeros.
-pub struct Totals {
-    pub refusal: u32,
-    pub bundles: u32,
-    pub loads: u32,
-}
-
-// LRU over a whole trace, from the empty buffer.
+// A whole trace, from the empty buffer.
 pub fn over_trace(k: u32, a: u32, trace: &[u32]) -> Totals
-    ensures { λ r. ⌜ r ≡ totalsOf k a (now (trace .entry)) ⌝ }
+    ensures { λ r. ⌜ r ≡ totalsOf ByRequest k a (now (trace .entry)) ⌝ }
 {
-    let number = Sizes { k, a }.trace_refusal(trace);
-    if number != 0 {
-        return Totals {
-            refusal: number,
-            bundles: 0,
-            loads: 0,
-        };
-    }
-    let run = serving::run_over(k, a, trace);
-    Totals {
-        refusal: 0,
-        bundles: run.evictions,
-        loads: run.loads,
-    }
+    queue::over_trace(Keeping::ByRequest, k, a, trace)
 }

@@ -9,13 +9,14 @@ use lib.ListN.{take}
 use Rattle.lists.specs.Choice.{_and_, _or_}
 use Rattle.lists.specs.Sorting.{rowBefore}
 use Rattle.paging.specs.Layers.{Layers, noLayers, layersAfter, joinCount, possible, breaksAt}
-use Rattle.paging.specs.Lru.{lruRule}
+use Rattle.paging.specs.Front.{frontRule, lruRule}
 use Rattle.paging.specs.Min.{minRule, bestCount, minLoads, farther}
-use Rattle.paging.specs.Policy.{bundles, bundleCount, loadCount}
+use Rattle.paging.specs.Policy.{bundles, bundlesBy, holdsBy, bundleCount, bundleCountBy, loadCount, loadCountBy}
 use Rattle.paging.specs.Rows.{pagesOf, numbersOf}
 use Rattle.paging.specs.Schedule.{Entry, ev, pf, serves, entriesCost}
 use Rattle.paging.specs.Table.{revealed, Tabled, nothingYet, tabledAfter}
 use Rattle.paging.specs.Same.{samePages, sameEntries, every, shift}
+use Rattle.paging.specs.declared.Keeping.the-variants.{ByLoad}
 
 table : (k a : ℕ) → List ℕ → Tabled
 table k a trace = tabledAfter k a trace nothingYet
@@ -25,6 +26,10 @@ minShift = ev 3 (3 ∷ 1 ∷ []) ∷ ev 6 (2 ∷ 4 ∷ []) ∷ []
 
 lruShift : List Entry
 lruShift = ev 3 (1 ∷ 2 ∷ []) ∷ ev 5 (3 ∷ 4 ∷ []) ∷ ev 7 (2 ∷ 5 ∷ []) ∷ []
+
+-- LRU and oldest load differ here, at k 3 and a 1
+hitThenFull : List ℕ
+hitThenFull = 1 ∷ 2 ∷ 3 ∷ 1 ∷ 4 ∷ 1 ∷ []
 
 -- the layers after its first seven requests
 seven : Layers
@@ -38,6 +43,10 @@ examples =
     ∷ sameEntries (bundles (lruRule 2) 3 0 shift [] []) lruShift
     ∷ eqb (bundleCount (lruRule 2) 3 shift) 3
     ∷ eqb (loadCount (lruRule 2) 3 shift) 8
+    -- on the shift oldest load evicts what LRU does
+    ∷ sameEntries (bundlesBy ByLoad (frontRule 2) 3 0 shift [] []) lruShift
+    ∷ eqb (bundleCountBy ByLoad (frontRule 2) 3 shift) 3
+    ∷ eqb (loadCountBy ByLoad (frontRule 2) 3 shift) 8
     ∷ eqb (joinCount 3 2 shift) 2
     ∷ samePages (numbersOf (table 3 2 shift .rows)) (1 ∷ 1 ∷ 1 ∷ 2 ∷ 3 ∷ [])
     ∷ samePages (pagesOf (table 3 2 shift .rows)) (2 ∷ 4 ∷ 5 ∷ 6 ∷ 1 ∷ [])
@@ -55,8 +64,16 @@ examples =
     ∷ eqb (bestCount 1 1 (1 ∷ 2 ∷ 1 ∷ [])) 2
     ∷ eqb (bestCount 3 2 (5 ∷ 5 ∷ 5 ∷ [])) 0
     ∷ eqb (minLoads 3 2 (5 ∷ 5 ∷ 5 ∷ [])) 1
-    -- a hit makes the page most recent
-    ∷ sameEntries (bundles (lruRule 1) 3 0 (1 ∷ 2 ∷ 3 ∷ 1 ∷ 4 ∷ []) [] []) (ev 4 (2 ∷ []) ∷ [])
+    -- by request a hit makes the page the last to go; by load it does not, and a page that is loaded again is the newest load
+    ∷ sameEntries (bundles (lruRule 1) 3 0 hitThenFull [] []) (ev 4 (2 ∷ []) ∷ [])
+    ∷ sameEntries (bundlesBy ByLoad (frontRule 1) 3 0 hitThenFull [] []) (ev 4 (1 ∷ []) ∷ ev 5 (2 ∷ []) ∷ [])
+    ∷ eqb (bundleCount (lruRule 1) 3 hitThenFull) 1
+    ∷ eqb (loadCount (lruRule 1) 3 hitThenFull) 4
+    ∷ eqb (bundleCountBy ByLoad (frontRule 1) 3 hitThenFull) 2
+    ∷ eqb (loadCountBy ByLoad (frontRule 1) 3 hitThenFull) 5
+    ∷ samePages (holdsBy ByLoad (frontRule 1) 3 hitThenFull [] []) (3 ∷ 4 ∷ 1 ∷ [])
+    ∷ eqb (bundleCount (lruRule 1) 3 (1 ∷ 2 ∷ 3 ∷ 1 ∷ 4 ∷ 2 ∷ [])) 2
+    ∷ eqb (bundleCountBy ByLoad (frontRule 1) 3 (1 ∷ 2 ∷ 3 ∷ 1 ∷ 4 ∷ 2 ∷ [])) 1
     -- at most k pages after a request
     ∷ serves 2 1 (1 ∷ 2 ∷ []) []
     ∷ not (serves 1 1 (1 ∷ 2 ∷ []) [])
@@ -73,5 +90,5 @@ examples =
     ∷ []
 
 examples-hold : every examples ≡ true
-unfolding every examples seven minShift lruShift table samePages sameEntries _and_ _or_ rowBefore farther
+unfolding every examples seven minShift lruShift hitThenFull table samePages sameEntries _and_ _or_ rowBefore farther
 examples-hold = refl

@@ -1,7 +1,7 @@
 pub mod Refusals
 pub mod Schedule
 pub mod Policy
-pub mod Lru
+pub mod Front
 pub mod Min
 pub mod Layers
 pub mod Table

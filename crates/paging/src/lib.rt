@@ -6,6 +6,13 @@ ghost use Rattle.paging.specs.Refusals.{sizesRefusal, traceRefusal};
 // The largest number of a counter, which has 32 bits. The records that count have it as a constant of their own.
 pub const COUNTER_MAX: u32 = 4294967295;
 
+// How the list of the pages held is kept, which decides what a hit does: from the least to the most recently requested page (LRU, MIN), or from
+// the oldest load to the newest (oldest load first). specs/Policy.antt says what each comes to.
+pub enum Keeping {
+    ByRequest,
+    ByLoad,
+}
+
 // The buffer's size k and the bundle's size a, as a call is handed them: any two numbers.
 pub struct Sizes {
     pub k: u32,

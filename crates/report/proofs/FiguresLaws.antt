@@ -11,13 +11,14 @@ use Rattle.paging.specs.Layers.{noLayers, layersAfter, joinCount}
 use Rattle.paging.specs.Refusals.{traceRefusal, SizesRight}
 use Rattle.paging.proofs.Refusals.{trace-taken}
 use Rattle.paging.proofs.Table.{tabled-top}
-use Rattle.lru.specs.Calls as lru
-use Rattle.lru.specs.declared.Totals as lru-totals
+use Rattle.paging.specs.declared.Keeping.the-variants.{ByRequest, ByLoad}
+use Rattle.queue.specs.Calls.{totalsOf}
+use Rattle.queue.specs.declared.Totals.{Totals}
 use Rattle.layers.specs.Traces.{traceTotals}
 use Rattle.layers.specs.declared.LayersTotals.{LayersTotals}
 use Rattle.layers.proofs.Steps.{trace-accepted, trace-counts}
-use Rattle.min.specs.Calls as min
-use Rattle.min.specs.declared.Counts as min-counts
+use Rattle.min.specs.Calls.{countsOf}
+use Rattle.min.specs.declared.Counts.{Counts}
 use Rattle.report.specs.Calls.{counts, layersCounts, figures, revealedAfter, refusedReport, reported, reportOf}
 use Rattle.report.specs.Traces.{whole, damaged, traceFile}
 use Rattle.report.specs.declared.Report.{Report}
@@ -37,8 +38,8 @@ module _ (k a : ℕ) (trace : List ℕ) (right : SizesRight k a) (short : length
       trace-counts k a trace blank blank (trace-accepted k a (right .a-low) (right .a-high) (right .k-high) trace (omega arith) 4096 short)
       ∙ rw (tabled-top k a trace) refl
 
-  pub figures-told : (m : min-counts.Counts) (l : lru-totals.Totals) (y : LayersTotals)
-      → m ≡ min.countsOf k a trace → l ≡ lru.totalsOf k a trace → y ≡ traceTotals k a trace blank blank
+  pub figures-told : (m : Counts) (l f : Totals) (y : LayersTotals)
+      → m ≡ countsOf k a trace → l ≡ totalsOf ByRequest k a trace → f ≡ totalsOf ByLoad k a trace → y ≡ traceTotals k a trace blank blank
       → record {
         refusal = 0;
         k = k;
@@ -46,11 +47,12 @@ module _ (k a : ℕ) (trace : List ℕ) (right : SizesRight k a) (short : length
         requests = length trace;
         min = counts (m .bundles) (m .loads);
         lru = counts (l .bundles) (l .loads);
+        fifo = counts (f .bundles) (f .loads);
         layers = layersCounts (y .bundles) (y .s) (y .revealed);
       } ≡ figures k a trace
   unfolding figures
-  figures-told m l y em el ey =
-      rw (em, el, ey ∙ layers-take, accepted) refl
+  figures-told m l f y em el ef ey =
+      rw (em, el, ef, ey ∙ layers-take, accepted) refl
 
 -- The whole input
 

@@ -1,3 +1,4 @@
 mod ReadingLaws
 mod FiguresLaws
 pub mod Prefix
+pub mod Cases

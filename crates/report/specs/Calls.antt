@@ -1,14 +1,15 @@
--- What the bench says of an input (document 01, "The eight-request shift"): the numbers of its four lines, or a refusal's number with
--- zeros beside it.
+-- What the bench says of an input (document 01, "The eight-request shift"; document 02, request 01): the numbers of its five lines, or a
+-- refusal's number with zeros beside it.
 use Prim.Native.Nat.{ℕ, _+_, _*_, _≤_}
 use mathlib.Core.List.{List, _++_}
 use mathlib.Core.Path.{_≡_}
 use lib.ListN.{length}
 use Rattle.paging.specs.Layers.{joinCount, layersAfter, noLayers}
-use Rattle.paging.specs.Lru.{lruRule}
+use Rattle.paging.specs.Front.{frontRule, lruRule}
 use Rattle.paging.specs.Min.{bestCount, minLoads}
-use Rattle.paging.specs.Policy.{bundleCount, loadCount}
+use Rattle.paging.specs.Policy.{bundleCount, bundleCountBy, loadCount, loadCountBy}
 use Rattle.paging.specs.Table.{revealed, tabledAfter, nothingYet}
+use Rattle.paging.specs.declared.Keeping.the-variants.{ByLoad}
 use Rattle.report.specs.Traces.{TraceFile, whole, damaged, traceFile}
 use Rattle.report.specs.declared.LayersFigures.{LayersFigures}
 use Rattle.report.specs.declared.PolicyFigures.{PolicyFigures}
@@ -29,6 +30,7 @@ refusedReport number =
       requests = 0;
       min = counts 0 0;
       lru = counts 0 0;
+      fifo = counts 0 0;
       layers = layersCounts 0 0 0;
     }
 
@@ -36,7 +38,7 @@ refusedReport number =
 abbrev pub revealedAfter : (k a : ℕ) → (trace : List ℕ) → ℕ
 revealedAfter k a trace = revealed (tabledAfter k a trace nothingYet .s) (tabledAfter k a trace nothingYet .rows)
 
--- k, a, requests; MIN's and LRU's bundles and loads; the layers' bundles, s, and revealed pages
+-- k, a, requests; MIN's, LRU's and oldest load's bundles and loads; the layers' bundles, s, and revealed pages
 unfoldable pub figures : (k a : ℕ) → (trace : List ℕ) → Report
 figures k a trace =
     record {
@@ -46,6 +48,7 @@ figures k a trace =
       requests = length trace;
       min = counts (bestCount k a trace) (minLoads k a trace);
       lru = counts (bundleCount (lruRule a) k trace) (loadCount (lruRule a) k trace);
+      fifo = counts (bundleCountBy ByLoad (frontRule a) k trace) (loadCountBy ByLoad (frontRule a) k trace);
       layers = layersCounts (joinCount k a trace) (layersAfter k a trace noLayers .top) (revealedAfter k a trace);
     }
 

@@ -1,4 +1,4 @@
-// The figures of a trace that was read: MIN's, LRU's and the layers'.
+// The figures of a trace that was read: MIN's, LRU's, oldest load's and the layers'.
 ghost use Prim.Native.Nat.{_≤_};
 ghost use mathlib.Core.Path.{_≡_};
 ghost use lib.ListN.{length};
@@ -15,6 +15,7 @@ pub(crate) fn of(k: u32, a: u32, trace: &[u32]) -> Report
 {
     let least = min::count(k, a, trace);
     let recent = lru::over_trace(k, a, trace);
+    let oldest = fifo::over_trace(k, a, trace);
     let mut pages = [0u32; Report::LONGEST];
     let mut numbers = [0u32; Report::LONGEST];
     let layered = layers::over_trace(k, a, trace, &mut pages, &mut numbers);
@@ -25,6 +26,10 @@ pub(crate) fn of(k: u32, a: u32, trace: &[u32]) -> Report
     let lru = PolicyFigures {
         bundles: recent.bundles,
         loads: recent.loads,
+    };
+    let fifo = PolicyFigures {
+        bundles: oldest.bundles,
+        loads: oldest.loads,
     };
     let layers = LayersFigures {
         bundles: layered.bundles,
@@ -38,6 +43,7 @@ pub(crate) fn of(k: u32, a: u32, trace: &[u32]) -> Report
         requests: trace.len() as u32,
         min,
         lru,
+        fifo,
         layers,
     }
 }

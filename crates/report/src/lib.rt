@@ -18,7 +18,7 @@ pub struct LayersFigures {
     pub revealed: u32,
 }
 
-// The four lines' numbers; or the refusal's number, and zeros.
+// The five lines' numbers; or the refusal's number, and zeros.
 pub struct Report {
     pub refusal: u32,
     pub k: u32,
@@ -26,6 +26,7 @@ pub struct Report {
     pub requests: u32,
     pub min: PolicyFigures,
     pub lru: PolicyFigures,
+    pub fifo: PolicyFigures,
     pub layers: LayersFigures,
 }
 
@@ -40,11 +41,7 @@ impl Report {
     pub fn refused(number: u32) -> Report
         ensures { λ r. ⌜ r ≡ refusedReport number ⌝ }
     {
-        let min = PolicyFigures {
-            bundles: 0,
-            loads: 0,
-        };
-        let lru = PolicyFigures {
+        let none = PolicyFigures {
             bundles: 0,
             loads: 0,
         };
@@ -58,8 +55,9 @@ impl Report {
             k: 0,
             a: 0,
             requests: 0,
-            min,
-            lru,
+            min: none,
+            lru: none,
+            fifo: none,
             layers,
         }
     }

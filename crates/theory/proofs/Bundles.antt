@@ -12,8 +12,10 @@ use Rattle.lists.specs.Pages.{mem, toEnd, erase, eraseAll, count}
 use Rattle.lists.proofs.Choice.{cases, split, clash, and-l, and-r, and-i, or-l, or-r, or-split, bit-true, eqb-self}
 use Rattle.lists.proofs.Pages.{Once, count-erase, count-all, count-some, mem-of-count, find-some, mem-eraseAll, length-same, toEnd-same, once-snoc, once-toEnd, once-eraseAll}
 use Rattle.paging.specs.Min.{nextUse}
-use Rattle.paging.specs.Policy.{Rule, Kind, hit, load, bundled, kindOf, serve}
+use Rattle.paging.specs.Policy.{Rule, Kind, hit, load, bundled, kindOf, afterHit, serveBy, serve}
 use Rattle.paging.specs.Schedule.{heldInTurn}
+use Rattle.paging.specs.declared.Keeping.{Keeping}
+use Rattle.paging.specs.declared.Keeping.the-variants.{ByRequest}
 use Rattle.theory.specs.Farthest.{Farthest}
 
 -- Taking out pages that are held
@@ -46,15 +48,23 @@ counted-held (p ∷ ps) held h =
 
 -- Serving a request, by its kind: what holds of the three kinds holds of the request
 
+pub by-kind-kept : (keeping : Keeping) (P : Kind → List ℕ → Type 0) (rule : Rule) (k p : ℕ) (later held : List ℕ)
+    → (mem p held ≡ true → P hit (afterHit keeping p held))
+    → (mem p held ≡ false → length held < k → P load (held ++ (p ∷ [])))
+    → (mem p held ≡ false → k ≤ length held → P bundled (eraseAll (rule later held) held ++ (p ∷ [])))
+    → P (kindOf k p held) (serveBy keeping rule k p later held)
+by-kind-kept keeping P rule k p later held h l b =
+    cases (mem p held)
+    (λ m. rw m (h m))
+    (λ m. cases (ltb (length held) k) (λ e. rw (m, e) (l m (ltb-true _ _ e))) (λ e. rw (m, e) (b m (ltb-false _ _ e))))
+
+-- the same for a list kept by request
 pub by-kind : (P : Kind → List ℕ → Type 0) (rule : Rule) (k p : ℕ) (later held : List ℕ)
     → (mem p held ≡ true → P hit (toEnd p held))
     → (mem p held ≡ false → length held < k → P load (held ++ (p ∷ [])))
     → (mem p held ≡ false → k ≤ length held → P bundled (eraseAll (rule later held) held ++ (p ∷ [])))
     → P (kindOf k p held) (serve rule k p later held)
-by-kind P rule k p later held h l b =
-    cases (mem p held)
-    (λ m. rw m (h m))
-    (λ m. cases (ltb (length held) k) (λ e. rw (m, e) (l m (ltb-true _ _ e))) (λ e. rw (m, e) (b m (ltb-false _ _ e))))
+by-kind = by-kind-kept ByRequest
 
 -- what a buffer keeps along a run: no page twice, at most k pages
 pub record Fits (k : ℕ) (held : List ℕ) : Type 0 where

@@ -9,7 +9,7 @@ use lib.ListN.{length, take}
 use Rattle.lists.specs.Choice.{_and_, _or_}
 use Rattle.lists.specs.Pages.{count}
 use Rattle.lists.specs.Sorting.{sortBy}
-use Rattle.paging.specs.Lru.{lruRule}
+use Rattle.paging.specs.Front.{lruRule}
 use Rattle.paging.specs.Min.{farther, minRule, bestCount}
 use Rattle.paging.specs.Policy.{Rule, isLoad, kinds, bundles, bundleCount}
 use Rattle.paging.specs.Schedule.{Entry, ev, pf, serves}

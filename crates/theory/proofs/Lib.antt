@@ -9,5 +9,5 @@ pub mod Possible
 pub mod Phases
 pub mod Factor
 pub mod Trailing
-pub mod Lru
+pub mod Front
 pub mod Counterexamples

@@ -1,0 +1,25 @@
+// Oldest load first (document 02, request 01): one request at a time and over a whole trace. The cache list runs from the oldest load to the
+// newest, and a hit moves no page.
+ghost use mathlib.Core.Path.{_≡_};
+ghost use Rattle.paging.specs.declared.Keeping.the-variants.{ByLoad};
+ghost use Rattle.queue.specs.Calls.{replyOf, cacheOf, evictedOf, totalsOf};
+use paging::Keeping;
+use queue::Reply;
+use queue::Run;
+use queue::Totals;
+
+// One request. The evicted list receives a bundle, oldest load first.
+pub fn request(run: Run, count: u32, cache: &mut [u32], evicted: &mut [u32], page: u32) -> Reply
+    ensures { λ r. ⌜ (r ≡ replyOf ByLoad run count (now (cache .entry)) (now (evicted .entry)) page)
+        × ((now (cache .exit) ≡ cacheOf ByLoad run count (now (cache .entry)) (now (evicted .entry)) page)
+        × (now (evicted .exit) ≡ evictedOf run count (now (cache .entry)) (now (evicted .entry)) page)) ⌝ }
+{
+    queue::request(Keeping::ByLoad, run, count, cache, evicted, page)
+}
+
+// A whole trace, from the empty buffer.
+pub fn over_trace(k: u32, a: u32, trace: &[u32]) -> Totals
+    ensures { λ r. ⌜ r ≡ totalsOf ByLoad k a (now (trace .entry)) ⌝ }
+{
+    queue::over_trace(Keeping::ByLoad, k, a, trace)
+}
