@@ -3,8 +3,8 @@
 
 pub mod files;
 pub mod layers;
-pub mod lru;
 pub mod min;
+pub mod queue;
 
 use crate::model::Refusal;
 use crate::report::differs;

@@ -2,7 +2,7 @@
 
 pub mod files;
 pub mod layers;
-pub mod lru;
+pub mod queue;
 pub mod traces;
 
 use crate::report::differs;

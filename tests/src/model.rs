@@ -6,6 +6,7 @@ pub mod layers;
 pub mod lines;
 pub mod lru;
 pub mod min;
+pub mod queue;
 
 /// The largest k.
 pub const K_MAX: u32 = 256;

@@ -2,7 +2,7 @@
 //! states.
 
 pub mod layers;
-pub mod lru;
+pub mod queue;
 
 /// A condition of a call, broken: the refusal that is due if nothing else is wrong, and how to break it.
 /// A state that cannot be broken so is left, and false is given.

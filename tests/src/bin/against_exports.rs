@@ -3,13 +3,14 @@
 //! at the first difference, and if a refusal or another kind of answer of some call was never reached.
 
 use bench_tests::calls::Reached;
-use bench_tests::comparisons::{files, layers, lru, traces};
+use bench_tests::comparisons::{files, layers, queue, traces};
+use bench_tests::model::lru::Lru;
 use bench_tests::rng::Rng;
 
 fn main() {
     let mut reached = Reached::default();
     traces::all(&mut reached, &mut Rng::new(3));
-    lru::all(&mut reached, &mut Rng::new(4));
+    queue::all::<Lru>(&mut reached, &mut Rng::new(4));
     layers::all(&mut reached, &mut Rng::new(5));
     files::all(&mut reached, &mut Rng::new(6));
     reached.table();

@@ -11,7 +11,8 @@
 
 use bench_tests::model::files::{schedule_file, trace_file, Entry};
 use bench_tests::model::layers::{self, Possible};
-use bench_tests::model::{judge, lru, min};
+use bench_tests::model::lru::Lru;
+use bench_tests::model::{judge, min, queue};
 use bench_tests::report::differs;
 use std::collections::{BTreeSet, HashSet};
 
@@ -83,7 +84,7 @@ fn check_counts(k: u32, a: u32, trace: &[u32]) {
         differs("the layers count MIN's bundles", &show(k, a, trace), &least, &layered);
     }
     let most = (k + a - 1) / a * least;
-    let recent = lru::run(k, a, trace).map(|run| run.bundles.len() as u32);
+    let recent = queue::run::<Lru>(k, a, trace).map(|run| run.bundles.len() as u32);
     if !matches!(recent, Ok(count) if count <= most) {
         differs("LRU's factor", &show(k, a, trace), &most, &recent);
     }

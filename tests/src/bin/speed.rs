@@ -7,7 +7,8 @@
 use bench_tests::exported::exports;
 use bench_tests::exported::judge::judge;
 use bench_tests::model::files::{schedule_file, trace_file, Entry};
-use bench_tests::model::{layers, lru, BENCH_MAX, TRACE_MAX};
+use bench_tests::model::queue::Record;
+use bench_tests::model::{layers, BENCH_MAX, TRACE_MAX};
 use bench_tests::plain;
 use bench_tests::rng::Rng;
 use bench_tests::schedules::legal;
@@ -122,7 +123,7 @@ fn time_lru(table: &mut Table) {
 /// Single requests that leave a full buffer full: `page` says which page each call asks for.
 fn time_lru_requests(table: &mut Table, what: &str, page: fn(usize) -> usize, name: fn(usize) -> u32) {
     const CALLS: usize = 20_000;
-    let record = lru::Record { k: K, a: 1, requests: 1_000, loads: 500, evictions: 200 };
+    let record = Record { k: K, a: 1, requests: 1_000, loads: 500, evictions: 200 };
     let start: Vec<u32> = (0..K as usize).map(name).collect();
     let pages: Vec<u32> = (0..CALLS).map(|call| name(page(call))).collect();
     let ours = || {

@@ -2,7 +2,9 @@
 //! model starts here. Nothing of the proved crates is run.
 
 use bench_tests::model::layers::{self, Layers, Possible};
-use bench_tests::model::{files, judge, lines, lru, min};
+use bench_tests::model::lru::Lru;
+use bench_tests::model::queue::{self, Record};
+use bench_tests::model::{files, judge, lines, min};
 use bench_tests::report::differs;
 use std::collections::BTreeSet;
 use std::fmt::Debug;
@@ -26,7 +28,7 @@ fn sets(layers: &[&[u32]]) -> Layers {
 
 fn bundles(k: u32, a: u32, trace: &[u32]) -> [u32; 3] {
     let best = min::run(k, a, trace).map(|run| run.bundles.len() as u32);
-    let recent = lru::run(k, a, trace).map(|run| run.bundles.len() as u32);
+    let recent = queue::run::<Lru>(k, a, trace).map(|run| run.bundles.len() as u32);
     let layered = layers::run(k, a, trace).map(|run| run.bundles);
     [best, recent, layered].map(|count| count.expect("k and a are sound"))
 }
@@ -47,7 +49,8 @@ fn marked(cases: &mut Cases) {
     cases.same("1", lines::lines(&file), "trace 3 2 8\nmin 2 7\nlru 3 8\nlayers 2 3 2\n".to_string());
     let best = min::run(3, 2, &SHIFT).map(|run| run.bundles);
     cases.same("2", best, Ok(vec![(3, vec![3, 1]), (6, vec![2, 4])]));
-    let recent = lru::run(3, 2, &SHIFT).map(|run| run.bundles.into_iter().map(|b| b.1).collect::<Vec<_>>());
+    let recent =
+        queue::run::<Lru>(3, 2, &SHIFT).map(|run| run.bundles.into_iter().map(|b| b.1).collect::<Vec<_>>());
     cases.same("3", recent, Ok(vec![vec![1, 2], vec![3, 4], vec![2, 5]]));
     let layered = layers::run(3, 2, &SHIFT).map(|run| run.layers);
     cases.same("4", layered, Ok(sets(&[&[2, 4, 5], &[6], &[1]])));
@@ -100,14 +103,14 @@ fn others(cases: &mut Cases) {
     let trace = files::trace_file(3, 2, &SHIFT);
     cases.same("its judgement", judge::judge(&trace, &bytes[..38]), Ok(2));
     cases.same("KA alone", judge::judge(&trace, &bytes[..6]), Err(7));
-    cases.same("4 5 6 4", lru::run(3, 2, &[1, 2, 3, 4, 5, 6, 4]).map(|run| run.loads), Ok(7));
+    cases.same("4 5 6 4", queue::run::<Lru>(3, 2, &[1, 2, 3, 4, 5, 6, 4]).map(|run| run.loads), Ok(7));
 }
 
 /// The readings' case of places between the count and k.
 fn lru_places(cases: &mut Cases) {
-    let record = lru::Record { k: 3, a: 1, requests: 1, loads: 1, evictions: 0 };
+    let record = Record { k: 3, a: 1, requests: 1, loads: 1, evictions: 0 };
     let mut cache = [5, 9, 9, 9];
-    let answer = lru::request(&record, 1, &mut cache, &mut [0], 5).map(|served| served.answer);
+    let answer = queue::request::<Lru>(&record, 1, &mut cache, &mut [0], 5).map(|served| served.answer);
     cases.same("a hit, count 1", (answer, cache), (Ok(0), [5, 0, 0, 9]));
 }
 

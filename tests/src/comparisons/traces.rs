@@ -1,11 +1,14 @@
 //! The sizes, and whole traces.
 
-use crate::calls::{layers, lru, min, Lent, Reached};
+use crate::calls::queue::{Exported, OverTrace};
+use crate::calls::{layers, min, Lent, Reached};
 use crate::model::files::schedule_file;
+use crate::model::lru::Lru;
 use crate::model::{self, TRACE_MAX};
 use crate::rng::Rng;
 use crate::states::border_sizes;
 use crate::traces::{any, any_sizes, of_kind, scattered, sizes, KINDS};
+use std::marker::PhantomData;
 
 /// The length of MIN's schedule; of a refused trace that of a KA.
 fn schedule_length(k: u32, a: u32, trace: &[u32]) -> usize {
@@ -49,10 +52,14 @@ fn other_tables(reached: &mut Reached, k: u32, a: u32, trace: &[u32], rng: &mut 
     }
 }
 
+fn through<P: Exported>(reached: &mut Reached, k: u32, a: u32, trace: &[u32]) {
+    reached.compare(&OverTrace { policy: PhantomData::<P>, k, a, trace: trace.to_vec() });
+}
+
 /// One trace through MIN and LRU, and through the layers on a table with places enough.
 fn through_all(reached: &mut Reached, k: u32, a: u32, trace: &[u32]) {
     reached.compare(&min::Count { k, a, trace: trace.to_vec() });
-    reached.compare(&lru::OverTrace { k, a, trace: trace.to_vec() });
+    through::<Lru>(reached, k, a, trace);
     reached.compare(&on_table(k, a, trace));
 }
 

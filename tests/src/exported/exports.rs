@@ -2,7 +2,8 @@
 //! is room for. Of a record the refusal's number comes first, 0 for none; of an enum the number of the
 //! case, 0 for a refusal.
 
-use crate::model::{layers, lru};
+use crate::model::layers;
+use crate::model::queue::Record;
 
 mod c {
     type Numbers = *const u32;
@@ -10,6 +11,23 @@ mod c {
     type Bytes = *const u8;
     type BytesMut = *mut u8;
     type Out = *mut u64;
+
+    /// A request of a policy that keeps its pages in a queue.
+    pub type QueueRequest = unsafe extern "C" fn(
+        k: u32,
+        a: u32,
+        requests: u32,
+        loads: u32,
+        evictions: u32,
+        count: u32,
+        cache: NumbersMut,
+        cache_len: usize,
+        evicted: NumbersMut,
+        evicted_len: usize,
+        page: u32,
+        out: Out,
+        out_len: usize,
+    );
 
     #[link(name = "exports", kind = "static")]
     extern "C" {
@@ -155,9 +173,16 @@ pub fn sizes_refusal(k: u32, a: u32) -> u32 {
     unsafe { c::sizes_refusal(k, a) }
 }
 
-/// Refusal, k, a, requests, loads, evictions, count, answer.
-pub fn lru_request(
-    record: &lru::Record,
+/// A request of a policy that keeps its pages in a queue: refusal, k, a, requests, loads, evictions, count,
+/// answer.
+pub type QueueRequest = fn(&Record, u32, &mut [u32], &mut [u32], u32, &mut [u64]);
+
+/// A policy over a whole trace: refusal, bundles, loads.
+pub type OverTrace = fn(u32, u32, &[u32], &mut [u64]);
+
+fn queue_request(
+    call: c::QueueRequest,
+    record: &Record,
     count: u32,
     cache: &mut [u32],
     evicted: &mut [u32],
@@ -165,7 +190,7 @@ pub fn lru_request(
     out: &mut [u64],
 ) {
     unsafe {
-        c::lru_request(
+        call(
             record.k,
             record.a,
             record.requests,
@@ -183,7 +208,17 @@ pub fn lru_request(
     }
 }
 
-/// Refusal, bundles, loads.
+pub fn lru_request(
+    record: &Record,
+    count: u32,
+    cache: &mut [u32],
+    evicted: &mut [u32],
+    page: u32,
+    out: &mut [u64],
+) {
+    queue_request(c::lru_request, record, count, cache, evicted, page, out);
+}
+
 pub fn lru_over_trace(k: u32, a: u32, trace: &[u32], out: &mut [u64]) {
     unsafe { c::lru_over_trace(k, a, trace.as_ptr(), trace.len(), out.as_mut_ptr(), out.len()) }
 }

@@ -1,12 +1,13 @@
 //! What `bench` prints for its standard input.
 
 use super::files::{read_trace, Trace};
-use super::{layers, lru, min, Refusal, BENCH_MAX};
+use super::lru::Lru;
+use super::{layers, min, queue, Refusal, BENCH_MAX};
 
 fn lines_of(trace: &Trace) -> Result<String, Refusal> {
     let Trace { k, a, pages } = trace;
     let best = min::run(*k, *a, pages)?;
-    let recent = lru::run(*k, *a, pages)?;
+    let recent = queue::run::<Lru>(*k, *a, pages)?;
     let layered = layers::run(*k, *a, pages)?;
     Ok(format!(
         "trace {} {} {}\nmin {} {}\nlru {} {}\nlayers {} {} {}\n",

@@ -1,111 +1,30 @@
-//! Least recent use, one request at a time and over a whole trace.
+//! Least recent use.
 
-use super::{check_sizes, check_trace, Bundle, Refusal};
-use std::collections::BTreeSet;
+use super::queue::Policy;
 
-/// The run record.
+/// The held pages, from least to most recent.
 #[derive(Clone, Debug, PartialEq, Eq)]
-pub struct Record {
-    pub k: u32,
-    pub a: u32,
-    pub requests: u32,
-    pub loads: u32,
-    pub evictions: u32,
-}
+pub struct Lru(Vec<u32>);
 
-/// What an accepted request answers.
-#[derive(Clone, Debug, PartialEq, Eq)]
-pub struct Served {
-    pub record: Record,
-    pub count: u32,
-    /// 0 for a hit, 1 for a load, 2 for a load after a bundle.
-    pub answer: u32,
-}
+impl Policy for Lru {
+    fn of_list(held: &[u32]) -> Self {
+        Lru(held.to_vec())
+    }
 
-/// Serves a page in a buffer that runs from least to most recent. A load gives its bundle, which is
-/// empty if there was room.
-fn serve(k: u32, a: u32, buffer: &mut Vec<u32>, page: u32) -> Option<Vec<u32>> {
-    if let Some(place) = buffer.iter().position(|&held| held == page) {
-        buffer.remove(place);
+    fn serve(&mut self, k: u32, a: u32, page: u32) -> Option<Vec<u32>> {
+        let Lru(buffer) = self;
+        if let Some(place) = buffer.iter().position(|&held| held == page) {
+            buffer.remove(place);
+            buffer.push(page);
+            return None;
+        }
+        let full = buffer.len() == k as usize;
+        let bundle = if full { buffer.drain(..a as usize).collect() } else { Vec::new() };
         buffer.push(page);
-        return None;
+        Some(bundle)
     }
-    let bundle = if buffer.len() == k as usize { buffer.drain(..a as usize).collect() } else { Vec::new() };
-    buffer.push(page);
-    Some(bundle)
-}
 
-fn well_formed(record: &Record, count: u32, cache: &[u32]) -> bool {
-    let held = &cache[..count.min(record.k) as usize];
-    let different: BTreeSet<u32> = held.iter().copied().collect();
-    count <= record.k
-        && different.len() == held.len()
-        && record.evictions <= record.loads
-        && record.loads <= record.requests
-}
-
-/// The refusals of a request, in order: 1, 2, 8, 9, 12.
-fn check(record: &Record, count: u32, cache: &[u32], evicted: &[u32]) -> Result<(), Refusal> {
-    check_sizes(record.k, record.a)?;
-    if cache.len() < record.k as usize || evicted.len() < record.a as usize {
-        return Err(8);
+    fn list(&self) -> Vec<u32> {
+        self.0.clone()
     }
-    if !well_formed(record, count, cache) {
-        return Err(9);
-    }
-    if record.requests == u32::MAX {
-        return Err(12);
-    }
-    Ok(())
-}
-
-/// One request on a lent cache list and a lent evicted list.
-pub fn request(
-    record: &Record,
-    count: u32,
-    cache: &mut [u32],
-    evicted: &mut [u32],
-    page: u32,
-) -> Result<Served, Refusal> {
-    check(record, count, cache, evicted)?;
-    let mut buffer = cache[..count as usize].to_vec();
-    let bundle = serve(record.k, record.a, &mut buffer, page);
-    let mut next = record.clone();
-    next.requests += 1;
-    let mut answer = 0;
-    if let Some(bundle) = bundle {
-        next.loads += 1;
-        answer = 1;
-        if !bundle.is_empty() {
-            next.evictions += 1;
-            answer = 2;
-            evicted[..bundle.len()].copy_from_slice(&bundle);
-        }
-    }
-    for (place, held) in cache[..record.k as usize].iter_mut().enumerate() {
-        *held = buffer.get(place).copied().unwrap_or(0);
-    }
-    Ok(Served { record: next, count: buffer.len() as u32, answer })
-}
-
-/// What a whole trace does, from an empty buffer.
-#[derive(Clone, Debug, PartialEq, Eq)]
-pub struct Run {
-    pub bundles: Vec<Bundle>,
-    pub loads: u32,
-}
-
-pub fn run(k: u32, a: u32, trace: &[u32]) -> Result<Run, Refusal> {
-    check_trace(k, a, trace)?;
-    let mut buffer = Vec::new();
-    let mut run = Run { bundles: Vec::new(), loads: 0 };
-    for (t, &page) in trace.iter().enumerate() {
-        if let Some(bundle) = serve(k, a, &mut buffer, page) {
-            run.loads += 1;
-            if !bundle.is_empty() {
-                run.bundles.push((t as u32, bundle));
-            }
-        }
-    }
-    Ok(run)
 }

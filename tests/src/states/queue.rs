@@ -1,11 +1,12 @@
-//! States of least recent use with the request that they get.
+//! States of policies that keep their pages in a queue, with the request that they get.
 
 use super::{all_lists, end_page, Fault};
-use crate::calls::lru::Request;
+use crate::calls::queue::Request;
 use crate::calls::Lent;
-use crate::model::lru::{self, Record};
+use crate::model::queue::{self, Policy, Record};
 use crate::rng::Rng;
 use crate::traces::any_sizes;
+use std::marker::PhantomData;
 
 /// A request's input before it is lent.
 #[derive(Clone, Debug)]
@@ -18,8 +19,9 @@ pub struct State {
 }
 
 impl State {
-    pub fn request(&self) -> Request {
+    pub fn request<P>(&self) -> Request<P> {
         Request {
+            policy: PhantomData,
             record: self.record.clone(),
             count: self.count,
             cache: Lent::new(&self.cache),
@@ -38,12 +40,13 @@ impl State {
 
     /// A state that some requests lead to, by the second implementation. Pages are at the ends of their
     /// range, and little more than k, so that each kind of answer is near.
-    pub fn reached(k: u32, a: u32, requests: usize, rng: &mut Rng) -> Self {
+    pub fn reached<P: Policy>(k: u32, a: u32, requests: usize, rng: &mut Rng) -> Self {
         let mut state = State::empty(k, a, rng);
         let pages = k as usize + 1 + rng.below(4);
         for _ in 0..requests {
             let page = end_page(rng.below(pages));
-            let served = lru::request(&state.record, state.count, &mut state.cache, &mut state.evicted, page)
+            let (cache, evicted) = (&mut state.cache, &mut state.evicted);
+            let served = queue::request::<P>(&state.record, state.count, cache, evicted, page)
                 .expect("the request is sound");
             state.record = served.record;
             state.count = served.count;

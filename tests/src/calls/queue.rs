@@ -1,12 +1,27 @@
-//! Least recent use.
+//! The policies that keep their pages in a queue.
 
 use super::{Answer, Call, Lent};
 use crate::exported::exports;
-use crate::model::lru::{self, Record};
+use crate::model::lru::Lru;
+use crate::model::queue::{self, Policy, Record};
 use crate::model::Refusal;
+use std::fmt::Debug;
+use std::marker::PhantomData;
+
+/// A policy with its calls in the static library, each under its name.
+pub trait Exported: Policy + Clone + Debug + PartialEq {
+    const REQUEST: (&'static str, exports::QueueRequest);
+    const OVER_TRACE: (&'static str, exports::OverTrace);
+}
+
+impl Exported for Lru {
+    const REQUEST: (&'static str, exports::QueueRequest) = ("lru_request", exports::lru_request);
+    const OVER_TRACE: (&'static str, exports::OverTrace) = ("lru_over_trace", exports::lru_over_trace);
+}
 
 #[derive(Clone, Debug, PartialEq, Eq)]
-pub struct Request {
+pub struct Request<P> {
+    pub policy: PhantomData<P>,
     pub record: Record,
     pub count: u32,
     pub cache: Lent<u32>,
@@ -14,14 +29,14 @@ pub struct Request {
     pub page: u32,
 }
 
-impl Call for Request {
-    const NAME: &'static str = "lru_request";
+impl<P: Exported> Call for Request<P> {
+    const NAME: &'static str = P::REQUEST.0;
     const REFUSALS: &'static [Refusal] = &[1, 2, 8, 9, 12];
     const KINDS: &'static [&'static str] = &["hit", "load", "load after a bundle"];
 
     fn expected(&mut self) -> Answer {
         let (cache, evicted) = (self.cache.list_mut(), self.evicted.list_mut());
-        match lru::request(&self.record, self.count, cache, evicted, self.page) {
+        match queue::request::<P>(&self.record, self.count, cache, evicted, self.page) {
             Err(refusal) => Answer::refused(refusal, 8),
             Ok(served) => {
                 let Record { k, a, requests, loads, evictions } = served.record;
@@ -33,11 +48,11 @@ impl Call for Request {
 
     fn exported(&mut self, out: &mut [u64]) {
         let (cache, evicted) = (self.cache.list_mut(), self.evicted.list_mut());
-        exports::lru_request(&self.record, self.count, cache, evicted, self.page, out);
+        P::REQUEST.1(&self.record, self.count, cache, evicted, self.page, out);
     }
 }
 
-impl Request {
+impl<P> Request<P> {
     /// Takes the record and count of an accepted request over, for the next one.
     pub fn go_on(&mut self, answer: &Answer) {
         if let [0, k, a, requests, loads, evictions, count, _] = answer.fields[..] {
@@ -49,25 +64,26 @@ impl Request {
 }
 
 #[derive(Clone, Debug, PartialEq, Eq)]
-pub struct OverTrace {
+pub struct OverTrace<P> {
+    pub policy: PhantomData<P>,
     pub k: u32,
     pub a: u32,
     pub trace: Vec<u32>,
 }
 
-impl Call for OverTrace {
-    const NAME: &'static str = "lru_over_trace";
+impl<P: Exported> Call for OverTrace<P> {
+    const NAME: &'static str = P::OVER_TRACE.0;
     const REFUSALS: &'static [Refusal] = &[1, 2, 3];
     const KINDS: &'static [&'static str] = &["totals"];
 
     fn expected(&mut self) -> Answer {
-        match lru::run(self.k, self.a, &self.trace) {
+        match queue::run::<P>(self.k, self.a, &self.trace) {
             Err(refusal) => Answer::refused(refusal, 3),
             Ok(run) => Answer::told("totals", &[0, run.bundles.len() as u64, u64::from(run.loads)]),
         }
     }
 
     fn exported(&mut self, out: &mut [u64]) {
-        exports::lru_over_trace(self.k, self.a, &self.trace, out);
+        P::OVER_TRACE.1(self.k, self.a, &self.trace, out);
     }
 }

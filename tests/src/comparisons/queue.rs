@@ -1,18 +1,19 @@
-//! Requests to least recent use.
+//! Requests to the policies that keep their pages in a queue.
 
 use super::{all_met, break_state, due, SOUND};
+use crate::calls::queue::Exported;
 use crate::calls::{Lent, Reached};
-use crate::model::lru::Record;
+use crate::model::queue::Record;
 use crate::rng::Rng;
-use crate::states::lru::{all_small, drawn, State, FAULTS};
+use crate::states::queue::{all_small, drawn, State, FAULTS};
 use crate::states::{border_sizes, end_page};
 use crate::traces::{any, sizes};
 
 /// Lists of requests, from the empty record and any cache list on.
-fn walks(reached: &mut Reached, rng: &mut Rng) {
+fn walks<P: Exported>(reached: &mut Reached, rng: &mut Rng) {
     for _ in 0..300 {
         let (k, a) = sizes(rng);
-        let mut call = State::empty(k, a, rng).request();
+        let mut call = State::empty(k, a, rng).request::<P>();
         for page in any(k, a, 200, rng) {
             call.page = page;
             call.evicted = Lent::new(&vec![3; a as usize + rng.below(3) - usize::from(rng.once_in(50))]);
@@ -23,23 +24,23 @@ fn walks(reached: &mut Reached, rng: &mut Rng) {
     }
 }
 
-fn faults(reached: &mut Reached, rng: &mut Rng) {
+fn faults<P: Exported>(reached: &mut Reached, rng: &mut Rng) {
     let mut alone = [0; FAULTS.len()];
     for (k, a) in SOUND {
         for requests in [0, 1, 2, k as usize, 2 * k as usize, 2 * k as usize + 3] {
-            let sound = State::reached(k, a, requests, rng);
-            reached.compare(&sound.request());
+            let sound = State::reached::<P>(k, a, requests, rng);
+            reached.compare(&sound.request::<P>());
             break_state(&sound, &FAULTS, &mut alone, |state, expected| {
-                let (_, answer) = reached.compare(&state.request());
-                due("lru_request", state, expected, answer.refusal);
+                let (_, answer) = reached.compare(&state.request::<P>());
+                due(P::REQUEST.0, state, expected, answer.refusal);
             });
         }
     }
-    all_met("lru_request", &FAULTS, &alone);
+    all_met(P::REQUEST.0, &FAULTS, &alone);
 }
 
 /// k and a, counters, counts and pages at the ends of their ranges.
-fn borders(reached: &mut Reached) {
+fn borders<P: Exported>(reached: &mut Reached) {
     const FULL: u32 = u32::MAX;
     let counters = [(0, 0, 0), (FULL - 1, FULL - 1, FULL - 1), (FULL, FULL, FULL), (FULL - 1, 3, 0)];
     for (k, a) in border_sizes() {
@@ -49,21 +50,21 @@ fn borders(reached: &mut Reached) {
                     let cache = (0..k.min(258) as usize).map(end_page).collect();
                     let evicted = vec![7; a.min(258) as usize];
                     let record = Record { k, a, requests, loads, evictions };
-                    reached.compare(&State { record, count, cache, evicted, page }.request());
+                    reached.compare(&State { record, count, cache, evicted, page }.request::<P>());
                 }
             }
         }
     }
 }
 
-pub fn all(reached: &mut Reached, rng: &mut Rng) {
-    walks(reached, rng);
-    faults(reached, rng);
-    borders(reached);
+pub fn all<P: Exported>(reached: &mut Reached, rng: &mut Rng) {
+    walks::<P>(reached, rng);
+    faults::<P>(reached, rng);
+    borders::<P>(reached);
     all_small(|state| {
-        reached.compare(&state.request());
+        reached.compare(&state.request::<P>());
     });
     for _ in 0..60_000 {
-        reached.compare(&drawn(rng).request());
+        reached.compare(&drawn(rng).request::<P>());
     }
 }
