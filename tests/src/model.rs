@@ -1,5 +1,6 @@
-//! Document 01's rules: its limits, and a file for each of its parts.
+//! Document 01's rules, and Req 01's for oldest load first: the limits, and a file for each part.
 
+pub mod fifo;
 pub mod files;
 pub mod judge;
 pub mod layers;

@@ -2,18 +2,21 @@
 //!
 //! - On every trace of up to 6 requests for 4 pages, the least cost of all legal schedules is found from the
 //!   cheapest way to hold each set of pages after each request, one page that is only fetched ahead
-//!   included. MIN's count and the layers' count are that cost, and LRU's count is at most k/a, rounded up,
-//!   times it.
+//!   included. MIN's count and the layers' count are that cost. LRU's count and oldest load's are each at most
+//!   k/a, rounded up, times MIN's and times the layers'; on some traces LRU's is the lower, on some the other.
 //! - On those of up to 5 requests, each set is answered possible exactly if MIN holds it for some
 //!   continuation without repeats; on those of up to 3, for some continuation of up to 4 requests as well.
 //! - On every file of up to two entries for traces of up to 3 requests, with k up to 2, the judge answers a
 //!   cost exactly if the entries are legal by document 01's paragraph, and that cost.
 
+use bench_tests::model::fifo::Fifo;
 use bench_tests::model::files::{schedule_file, trace_file, Entry};
 use bench_tests::model::layers::{self, Possible};
 use bench_tests::model::lru::Lru;
-use bench_tests::model::{judge, min, queue};
+use bench_tests::model::queue::{self, Policy};
+use bench_tests::model::{judge, min};
 use bench_tests::report::differs;
+use std::cmp::Ordering;
 use std::collections::{BTreeSet, HashSet};
 
 /// Pages are 0 to 3; page 4 is never requested, but may be fetched ahead. A buffer is a set of bits.
@@ -73,21 +76,33 @@ fn show(k: u32, a: u32, trace: &[u32]) -> Vec<(&'static str, String)> {
     vec![("k, a", format!("{} {}", k, a)), ("trace", format!("{:?}", trace))]
 }
 
-fn check_counts(k: u32, a: u32, trace: &[u32]) {
+/// A policy's bundles, which are at most k/a, rounded up, times each of the counts.
+fn within_factor<P: Policy>(policy: &str, k: u32, a: u32, trace: &[u32], counts: [u32; 2]) -> usize {
+    let bundles = queue::run::<P>(k, a, trace).expect("k and a are sound").bundles.len();
+    for (whose, count) in ["MIN's", "the layers'"].iter().zip(counts) {
+        let most = ((k + a - 1) / a * count) as usize;
+        if bundles > most {
+            let test = format!("the factor of {} and {} count", policy, whose);
+            differs(&test, &show(k, a, trace), &most, &bundles);
+        }
+    }
+    bundles
+}
+
+/// Checks all counts of a trace, and gives how LRU's is to oldest load's.
+fn check_counts(k: u32, a: u32, trace: &[u32]) -> Ordering {
     let least = least_cost(k, a, trace);
-    let best = min::run(k, a, trace).map(|run| run.bundles.len() as u32);
-    if best != Ok(least) {
+    let best = min::run(k, a, trace).expect("k and a are sound").bundles.len() as u32;
+    if best != least {
         differs("MIN's count is the least", &show(k, a, trace), &least, &best);
     }
-    let layered = layers::run(k, a, trace).map(|run| run.bundles);
-    if layered != Ok(least) {
+    let layered = layers::run(k, a, trace).expect("k and a are sound").bundles;
+    if layered != least {
         differs("the layers count MIN's bundles", &show(k, a, trace), &least, &layered);
     }
-    let most = (k + a - 1) / a * least;
-    let recent = queue::run::<Lru>(k, a, trace).map(|run| run.bundles.len() as u32);
-    if !matches!(recent, Ok(count) if count <= most) {
-        differs("LRU's factor", &show(k, a, trace), &most, &recent);
-    }
+    let recent = within_factor::<Lru>("LRU", k, a, trace, [best, layered]);
+    let oldest = within_factor::<Fifo>("oldest load", k, a, trace, [best, layered]);
+    recent.cmp(&oldest)
 }
 
 /// Continuations without a repeated page, over pages 0 to 3: what MIN's rule asks of the future is
@@ -211,15 +226,37 @@ fn try_files() -> usize {
     tried
 }
 
+/// Ends the program unless each of the two policies made fewer bundles than the other on some trace: a model
+/// of oldest load in which a hit moved the page would be LRU's, and would pass every other check here.
+fn both_ways(recent_lower: usize, oldest_lower: usize) {
+    if recent_lower == 0 || oldest_lower == 0 {
+        differs(
+            "LRU and oldest load",
+            &[],
+            &"each is the lower on some trace",
+            &(recent_lower, oldest_lower),
+        );
+    }
+    println!(
+        "all schedules: LRU makes fewer bundles than oldest load on {} of them, more on {}",
+        recent_lower, oldest_lower
+    );
+}
+
 fn main() {
     let sizes: Vec<(u32, u32)> = (1..=4).flat_map(|k| (1..=k).map(move |a| (k, a))).collect();
     let mut continuations = Vec::new();
     arrangements(0, &[], &mut continuations);
     let repeating = lists(PAGES, 4);
     let (mut counts, mut sets) = (0, 0);
+    let (mut recent_lower, mut oldest_lower) = (0, 0);
     for trace in lists(PAGES, 6) {
         for &(k, a) in &sizes {
-            check_counts(k, a, &trace);
+            match check_counts(k, a, &trace) {
+                Ordering::Less => recent_lower += 1,
+                Ordering::Greater => oldest_lower += 1,
+                Ordering::Equal => {}
+            }
             counts += 1;
             if trace.len() <= 5 {
                 check_sets(k, a, &trace, &continuations);
@@ -231,5 +268,6 @@ fn main() {
         }
     }
     println!("all schedules: {} traces with k, a agree on counts, {} on possible sets", counts, sets);
+    both_ways(recent_lower, oldest_lower);
     println!("all schedules: {} pairs of files judged as document 01's legal schedules", try_files());
 }

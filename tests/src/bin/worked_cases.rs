@@ -1,9 +1,10 @@
-//! Document 01's worked cases, by hand, against the second implementation: a reader who doubts the
-//! model starts here. Nothing of the proved crates is run.
+//! Document 01's worked cases and those of oldest load first, by hand, against the second implementation: a
+//! reader who doubts the model starts here. Nothing of the proved crates is run.
 
+use bench_tests::model::fifo::Fifo;
 use bench_tests::model::layers::{self, Layers, Possible};
 use bench_tests::model::lru::Lru;
-use bench_tests::model::queue::{self, Record};
+use bench_tests::model::queue::{self, Policy, Record};
 use bench_tests::model::{files, judge, lines, min};
 use bench_tests::report::differs;
 use std::collections::BTreeSet;
@@ -26,11 +27,33 @@ fn sets(layers: &[&[u32]]) -> Layers {
     layers.iter().map(|layer| layer.iter().copied().collect()).collect()
 }
 
-fn bundles(k: u32, a: u32, trace: &[u32]) -> [u32; 3] {
+/// The bundles of MIN, LRU, oldest load first and the layers.
+fn bundles(k: u32, a: u32, trace: &[u32]) -> [u32; 4] {
     let best = min::run(k, a, trace).map(|run| run.bundles.len() as u32);
     let recent = queue::run::<Lru>(k, a, trace).map(|run| run.bundles.len() as u32);
+    let oldest = queue::run::<Fifo>(k, a, trace).map(|run| run.bundles.len() as u32);
     let layered = layers::run(k, a, trace).map(|run| run.bundles);
-    [best, recent, layered].map(|count| count.expect("k and a are sound"))
+    [best, recent, oldest, layered].map(|count| count.expect("k and a are sound"))
+}
+
+/// The pages of each bundle.
+fn evicted<P: Policy>(k: u32, a: u32, trace: &[u32]) -> Vec<Vec<u32>> {
+    let run = queue::run::<P>(k, a, trace).expect("k and a are sound");
+    run.bundles.into_iter().map(|bundle| bundle.1).collect()
+}
+
+/// The number of bundles, and the loads.
+fn totals<P: Policy>(k: u32, a: u32, trace: &[u32]) -> (usize, u32) {
+    let run = queue::run::<P>(k, a, trace).expect("k and a are sound");
+    (run.bundles.len(), run.loads)
+}
+
+/// One request with k 3, a 2 on a cache list of four places: the answer, the count, both lists.
+fn one_request<P: Policy>(count: u32, cache: [u32; 4], page: u32) -> (u32, u32, [u32; 4], [u32; 3]) {
+    let record = Record { k: 3, a: 2, requests: 3, loads: 3, evictions: 0 };
+    let (mut cache, mut evicted) = (cache, [7; 3]);
+    let served = queue::request::<P>(&record, count, &mut cache, &mut evicted, page).expect("it is sound");
+    (served.answer, served.count, cache, evicted)
 }
 
 /// The answer of the last of a list of layer requests on a table of some places.
@@ -46,17 +69,19 @@ fn last_request(k: u32, a: u32, places: usize, trace: &[u32]) -> Result<u32, u32
 fn marked(cases: &mut Cases) {
     let file = files::trace_file(3, 2, &SHIFT);
     cases.same("the shift's bytes", file.len(), 54);
-    cases.same("1", lines::lines(&file), "trace 3 2 8\nmin 2 7\nlru 3 8\nlayers 2 3 2\n".to_string());
+    cases.same(
+        "1",
+        lines::lines(&file),
+        "trace 3 2 8\nmin 2 7\nlru 3 8\nfifo 3 8\nlayers 2 3 2\n".to_string(),
+    );
     let best = min::run(3, 2, &SHIFT).map(|run| run.bundles);
     cases.same("2", best, Ok(vec![(3, vec![3, 1]), (6, vec![2, 4])]));
-    let recent =
-        queue::run::<Lru>(3, 2, &SHIFT).map(|run| run.bundles.into_iter().map(|b| b.1).collect::<Vec<_>>());
-    cases.same("3", recent, Ok(vec![vec![1, 2], vec![3, 4], vec![2, 5]]));
+    cases.same("3", evicted::<Lru>(3, 2, &SHIFT), vec![vec![1, 2], vec![3, 4], vec![2, 5]]);
     let layered = layers::run(3, 2, &SHIFT).map(|run| run.layers);
     cases.same("4", layered, Ok(sets(&[&[2, 4, 5], &[6], &[1]])));
-    cases.same("7", bundles(2, 2, &[1, 2, 3]), [1, 1, 1]);
+    cases.same("7", bundles(2, 2, &[1, 2, 3]), [1, 1, 1, 1]);
     cases.same("7, s", last_request(2, 2, 3, &[1, 2, 3]), Ok(1));
-    cases.same("8", bundles(1, 1, &[1, 2, 1]), [2, 2, 2]);
+    cases.same("8", bundles(1, 1, &[1, 2, 1]), [2, 2, 2, 2]);
     cases.same("9", last_request(2, 1, 2, &[1, 2, 3]), Err(10));
     cases.same("9, a 2", last_request(2, 2, 2, &[1, 2, 3]), Ok(1));
     cases.same("10", last_request(2, 1, 3, &[1, 2, 3, 1, 4]), Ok(2));
@@ -80,9 +105,9 @@ fn questions(cases: &mut Cases) {
 }
 
 fn others(cases: &mut Cases) {
-    cases.same("k 256", bundles(256, 256, &SHIFT), [0, 0, 0]);
+    cases.same("k 256", bundles(256, 256, &SHIFT), [0, 0, 0, 0]);
     cases.same("k 257", min::run(257, 1, &SHIFT), Err(1));
-    cases.same("a = k", bundles(3, 3, &SHIFT), [2, 2, 2]);
+    cases.same("a = k", bundles(3, 3, &SHIFT), [2, 2, 2, 2]);
     cases.same("a = k + 1", min::run(3, 4, &SHIFT), Err(2));
     let mut bytes = [7; 40];
     let length =
@@ -92,7 +117,7 @@ fn others(cases: &mut Cases) {
     cases.same(
         "its lines",
         lines::lines(&empty),
-        "trace 3 2 0\nmin 0 0\nlru 0 0\nlayers 0 0 0\n".to_string(),
+        "trace 3 2 0\nmin 0 0\nlru 0 0\nfifo 0 0\nlayers 0 0 0\n".to_string(),
     );
     cases.same("5 5 5", min::run(3, 2, &[5, 5, 5]).map(|run| (run.bundles, run.loads)), Ok((vec![], 1)));
     let mut bytes = [7; 40];
@@ -103,15 +128,32 @@ fn others(cases: &mut Cases) {
     let trace = files::trace_file(3, 2, &SHIFT);
     cases.same("its judgement", judge::judge(&trace, &bytes[..38]), Ok(2));
     cases.same("KA alone", judge::judge(&trace, &bytes[..6]), Err(7));
-    cases.same("4 5 6 4", queue::run::<Lru>(3, 2, &[1, 2, 3, 4, 5, 6, 4]).map(|run| run.loads), Ok(7));
+    cases.same("4 5 6 4", totals::<Lru>(3, 2, &[1, 2, 3, 4, 5, 6, 4]).1, 7);
 }
 
-/// The readings' case of places between the count and k.
-fn lru_places(cases: &mut Cases) {
-    let record = Record { k: 3, a: 1, requests: 1, loads: 1, evictions: 0 };
-    let mut cache = [5, 9, 9, 9];
-    let answer = queue::request::<Lru>(&record, 1, &mut cache, &mut [0], 5).map(|served| served.answer);
-    cases.same("a hit, count 1", (answer, cache), (Ok(0), [5, 0, 0, 9]));
+/// The readings' cases of places between the count and k, and of the evicted list.
+fn places<P: Policy>(cases: &mut Cases, policy: &str) {
+    let mut same = |name, got, expected| cases.same(&format!("{}, {}", policy, name), got, expected);
+    same("a hit, count 1", one_request::<P>(1, [5, 9, 9, 9], 5), (0, 1, [5, 0, 0, 9], [7, 7, 7]));
+    same("a load", one_request::<P>(1, [5, 9, 9, 9], 8), (1, 2, [5, 8, 0, 9], [7, 7, 7]));
+    same("a bundle", one_request::<P>(3, [5, 6, 8, 9], 1), (2, 2, [8, 1, 0, 9], [5, 6, 7]));
+}
+
+/// Oldest load first, beside LRU where they differ: a hit moves the page in one of them only.
+fn oldest_load(cases: &mut Cases) {
+    cases.same("the shift, oldest load", totals::<Fifo>(3, 2, &SHIFT), (3, 8));
+    cases.same("its bundles", evicted::<Fifo>(3, 2, &SHIFT), vec![vec![1, 2], vec![3, 4], vec![2, 5]]);
+    cases.same("1 4 1, LRU", totals::<Lru>(3, 1, &[1, 2, 3, 1, 4, 1]), (1, 4));
+    cases.same("1 4 1, oldest load", totals::<Fifo>(3, 1, &[1, 2, 3, 1, 4, 1]), (2, 5));
+    cases.same("1 4 2, LRU", totals::<Lru>(3, 1, &[1, 2, 3, 1, 4, 2]), (2, 5));
+    cases.same("1 4 2, oldest load", totals::<Fifo>(3, 1, &[1, 2, 3, 1, 4, 2]), (1, 4));
+    cases.same("the bundle for 4, LRU", evicted::<Lru>(3, 1, &[1, 2, 3, 1, 4]), vec![vec![2]]);
+    cases.same("the bundle for 4, oldest load", evicted::<Fifo>(3, 1, &[1, 2, 3, 1, 4]), vec![vec![1]]);
+    let again = vec![vec![1], vec![2], vec![3], vec![4], vec![1]];
+    cases.same("1 loaded again is newest", evicted::<Fifo>(3, 1, &[1, 2, 3, 4, 1, 5, 6, 7]), again);
+    let full = [5, 6, 8, 9];
+    cases.same("a hit, LRU", one_request::<Lru>(3, full, 5), (0, 3, [6, 8, 5, 9], [7, 7, 7]));
+    cases.same("a hit, oldest load", one_request::<Fifo>(3, full, 5), (0, 3, full, [7, 7, 7]));
 }
 
 fn main() {
@@ -119,6 +161,8 @@ fn main() {
     marked(&mut cases);
     questions(&mut cases);
     others(&mut cases);
-    lru_places(&mut cases);
+    places::<Lru>(&mut cases, "LRU");
+    places::<Fifo>(&mut cases, "oldest load");
+    oldest_load(&mut cases);
     println!("worked cases: {} agree", cases.0);
 }

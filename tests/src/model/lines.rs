@@ -1,5 +1,6 @@
 //! What `bench` prints for its standard input.
 
+use super::fifo::Fifo;
 use super::files::{read_trace, Trace};
 use super::lru::Lru;
 use super::{layers, min, queue, Refusal, BENCH_MAX};
@@ -8,9 +9,10 @@ fn lines_of(trace: &Trace) -> Result<String, Refusal> {
     let Trace { k, a, pages } = trace;
     let best = min::run(*k, *a, pages)?;
     let recent = queue::run::<Lru>(*k, *a, pages)?;
+    let oldest = queue::run::<Fifo>(*k, *a, pages)?;
     let layered = layers::run(*k, *a, pages)?;
     Ok(format!(
-        "trace {} {} {}\nmin {} {}\nlru {} {}\nlayers {} {} {}\n",
+        "trace {} {} {}\nmin {} {}\nlru {} {}\nfifo {} {}\nlayers {} {} {}\n",
         k,
         a,
         pages.len(),
@@ -18,13 +20,15 @@ fn lines_of(trace: &Trace) -> Result<String, Refusal> {
         best.loads,
         recent.bundles.len(),
         recent.loads,
+        oldest.bundles.len(),
+        oldest.loads,
         layered.bundles,
         layered.layers.len(),
         layers::revealed_of(&layered.layers),
     ))
 }
 
-/// The four lines, or the line of a refusal.
+/// The lines of a trace, or the line of a refusal.
 pub fn lines(input: &[u8]) -> String {
     match read_trace(input, BENCH_MAX).and_then(|trace| lines_of(&trace)) {
         Ok(lines) => lines,

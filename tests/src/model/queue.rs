@@ -1,6 +1,6 @@
-//! What policies that keep their pages in a queue share: the run record, the refusals of a request, what the
-//! lent lists hold after it, and a whole trace. What a hit does and which pages a bundle takes is said by
-//! each policy in a file of its own.
+//! What least recent use and oldest load first share, "same lists, same bundle size": the run record, the
+//! refusals of a request, what the lent lists hold after it, and a whole trace. What a hit does and which
+//! pages a bundle takes is said by each policy in a file of its own.
 
 use super::{check_sizes, check_trace, Bundle, Refusal};
 use std::collections::BTreeSet;
