@@ -4,6 +4,7 @@
 
 use bench_tests::calls::Reached;
 use bench_tests::comparisons::{files, layers, queue, traces};
+use bench_tests::model::fifo::Fifo;
 use bench_tests::model::lru::Lru;
 use bench_tests::rng::Rng;
 
@@ -11,6 +12,7 @@ fn main() {
     let mut reached = Reached::default();
     traces::all(&mut reached, &mut Rng::new(3));
     queue::all::<Lru>(&mut reached, &mut Rng::new(4));
+    queue::all::<Fifo>(&mut reached, &mut Rng::new(7));
     layers::all(&mut reached, &mut Rng::new(5));
     files::all(&mut reached, &mut Rng::new(6));
     reached.table();

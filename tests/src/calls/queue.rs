@@ -1,7 +1,8 @@
-//! The policies that keep their pages in a queue.
+//! Least recent use and oldest load first.
 
 use super::{Answer, Call, Lent};
 use crate::exported::exports;
+use crate::model::fifo::Fifo;
 use crate::model::lru::Lru;
 use crate::model::queue::{self, Policy, Record};
 use crate::model::Refusal;
@@ -17,6 +18,11 @@ pub trait Exported: Policy + Clone + Debug + PartialEq {
 impl Exported for Lru {
     const REQUEST: (&'static str, exports::QueueRequest) = ("lru_request", exports::lru_request);
     const OVER_TRACE: (&'static str, exports::OverTrace) = ("lru_over_trace", exports::lru_over_trace);
+}
+
+impl Exported for Fifo {
+    const REQUEST: (&'static str, exports::QueueRequest) = ("fifo_request", exports::fifo_request);
+    const OVER_TRACE: (&'static str, exports::OverTrace) = ("fifo_over_trace", exports::fifo_over_trace);
 }
 
 #[derive(Clone, Debug, PartialEq, Eq)]

@@ -1,4 +1,4 @@
-//! Requests to the policies that keep their pages in a queue.
+//! Requests to least recent use and to oldest load first.
 
 use super::{all_met, break_state, due, SOUND};
 use crate::calls::queue::Exported;

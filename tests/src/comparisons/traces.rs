@@ -2,6 +2,7 @@
 
 use crate::calls::queue::{Exported, OverTrace};
 use crate::calls::{layers, min, Lent, Reached};
+use crate::model::fifo::Fifo;
 use crate::model::files::schedule_file;
 use crate::model::lru::Lru;
 use crate::model::{self, TRACE_MAX};
@@ -56,10 +57,11 @@ fn through<P: Exported>(reached: &mut Reached, k: u32, a: u32, trace: &[u32]) {
     reached.compare(&OverTrace { policy: PhantomData::<P>, k, a, trace: trace.to_vec() });
 }
 
-/// One trace through MIN and LRU, and through the layers on a table with places enough.
+/// One trace through MIN, LRU and oldest load first, and through the layers on a table with places enough.
 fn through_all(reached: &mut Reached, k: u32, a: u32, trace: &[u32]) {
     reached.compare(&min::Count { k, a, trace: trace.to_vec() });
     through::<Lru>(reached, k, a, trace);
+    through::<Fifo>(reached, k, a, trace);
     reached.compare(&on_table(k, a, trace));
 }
 

@@ -48,6 +48,22 @@ mod c {
             out_len: usize,
         );
         pub fn lru_over_trace(k: u32, a: u32, trace: Numbers, trace_len: usize, out: Out, out_len: usize);
+        pub fn fifo_request(
+            k: u32,
+            a: u32,
+            requests: u32,
+            loads: u32,
+            evictions: u32,
+            count: u32,
+            cache: NumbersMut,
+            cache_len: usize,
+            evicted: NumbersMut,
+            evicted_len: usize,
+            page: u32,
+            out: Out,
+            out_len: usize,
+        );
+        pub fn fifo_over_trace(k: u32, a: u32, trace: Numbers, trace_len: usize, out: Out, out_len: usize);
         pub fn min_count(k: u32, a: u32, trace: Numbers, trace_len: usize, out: Out, out_len: usize);
         pub fn min_schedule(
             k: u32,
@@ -221,6 +237,21 @@ pub fn lru_request(
 
 pub fn lru_over_trace(k: u32, a: u32, trace: &[u32], out: &mut [u64]) {
     unsafe { c::lru_over_trace(k, a, trace.as_ptr(), trace.len(), out.as_mut_ptr(), out.len()) }
+}
+
+pub fn fifo_request(
+    record: &Record,
+    count: u32,
+    cache: &mut [u32],
+    evicted: &mut [u32],
+    page: u32,
+    out: &mut [u64],
+) {
+    queue_request(c::fifo_request, record, count, cache, evicted, page, out);
+}
+
+pub fn fifo_over_trace(k: u32, a: u32, trace: &[u32], out: &mut [u64]) {
+    unsafe { c::fifo_over_trace(k, a, trace.as_ptr(), trace.len(), out.as_mut_ptr(), out.len()) }
 }
 
 /// Refusal, bundles, loads.

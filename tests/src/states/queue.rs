@@ -1,4 +1,4 @@
-//! States of policies that keep their pages in a queue, with the request that they get.
+//! States of least recent use and of oldest load first, with the request that they get.
 
 use super::{all_lists, end_page, Fault};
 use crate::calls::queue::Request;
