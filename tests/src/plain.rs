@@ -2,6 +2,7 @@
 //! check of the state. The timings compare the proved code with these, and their answers as well.
 
 pub mod bench;
+pub mod fifo;
 pub mod judge;
 pub mod layers;
 pub mod lru;

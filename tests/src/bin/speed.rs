@@ -1,12 +1,15 @@
 //! Times the proved code beside plain versions on the same input, in one run, and prints a table.
 //! Run it by tests/speed. Usage: speed PROGRAM PLAIN_PROGRAM [PART ..]
 //!
-//! PROGRAM is `bench`, PLAIN_PROGRAM plain_bench; a PART is one of bench, next, min, lru, layers, judge,
+//! PROGRAM is `bench`, PLAIN_PROGRAM plain_bench; a PART is one of bench, next, min, lru, fifo, layers, judge,
 //! and without any all are timed. Each time is the least of several repeats.
 
+use bench_tests::calls::queue::Exported;
 use bench_tests::exported::exports;
 use bench_tests::exported::judge::judge;
+use bench_tests::model::fifo::Fifo;
 use bench_tests::model::files::{schedule_file, trace_file, Entry};
+use bench_tests::model::lru::Lru;
 use bench_tests::model::queue::Record;
 use bench_tests::model::{layers, BENCH_MAX, TRACE_MAX};
 use bench_tests::plain;
@@ -110,34 +113,75 @@ fn time_min_schedule(table: &mut Table) {
     }
 }
 
-fn time_lru(table: &mut Table) {
+/// k, a, the count, the cache list, the evicted list, the page.
+type PlainRequest = fn(usize, usize, &mut usize, &mut [u32], &mut [u32], u32) -> u32;
+
+/// k, a, the trace; gives bundles and loads.
+type PlainRun = fn(u32, u32, &[u32]) -> (u32, u32);
+
+/// A policy with its plain version.
+trait Timed: Exported {
+    const JOB: &'static str;
+    const REQUEST_JOB: &'static str;
+    const PLAIN_REQUEST: PlainRequest;
+    const PLAIN_RUN: PlainRun;
+    /// Which of the pages 0 to 255, loaded in this order, a call asks for to hit the list's first one each time.
+    const FIRST: fn(usize) -> usize;
+}
+
+impl Timed for Lru {
+    const JOB: &'static str = "LRU";
+    const REQUEST_JOB: &'static str = "one LRU request";
+    const PLAIN_REQUEST: PlainRequest = plain::lru::request;
+    const PLAIN_RUN: PlainRun = plain::lru::run;
+    const FIRST: fn(usize) -> usize = |call| call % 256;
+}
+
+impl Timed for Fifo {
+    const JOB: &'static str = "fifo";
+    const REQUEST_JOB: &'static str = "one fifo request";
+    const PLAIN_REQUEST: PlainRequest = plain::fifo::request;
+    const PLAIN_RUN: PlainRun = plain::fifo::run;
+    const FIRST: fn(usize) -> usize = |_| 0;
+}
+
+fn time_over_traces<P: Timed>(table: &mut Table) {
     for a in [1, 64] {
         for (name, pages) in traces(a, TRACE_MAX) {
-            let ours = || field(1, |out| exports::lru_over_trace(K, a, opaque(&pages), out));
-            let plain = || u64::from(plain::lru::run(K, a, opaque(&pages)).0);
-            table.row("LRU", name, 1, &mut { ours }, &mut { plain });
+            let ours = || field(1, |out| P::OVER_TRACE.1(K, a, opaque(&pages), out));
+            let plain = || u64::from(P::PLAIN_RUN(K, a, opaque(&pages)).0);
+            table.row(P::JOB, name, 1, &mut { ours }, &mut { plain });
         }
     }
 }
 
 /// Single requests that leave a full buffer full: `page` says which page each call asks for.
-fn time_lru_requests(table: &mut Table, what: &str, page: fn(usize) -> usize, name: fn(usize) -> u32) {
+fn time_requests<P: Timed>(table: &mut Table, what: &str, page: fn(usize) -> usize, name: fn(usize) -> u32) {
     const CALLS: usize = 20_000;
     let record = Record { k: K, a: 1, requests: 1_000, loads: 500, evictions: 200 };
     let start: Vec<u32> = (0..K as usize).map(name).collect();
     let pages: Vec<u32> = (0..CALLS).map(|call| name(page(call))).collect();
     let ours = || {
         let (mut cache, mut evicted) = (start.clone(), [0; 1]);
-        let mut serve =
-            |page| field(7, |out| exports::lru_request(&record, K, &mut cache, &mut evicted, page, out));
+        let mut serve = |page| field(7, |out| P::REQUEST.1(&record, K, &mut cache, &mut evicted, page, out));
         pages.iter().map(|&page| serve(page)).sum::<u64>()
     };
     let plain = || {
         let (mut cache, mut evicted, mut count) = (start.clone(), [0; 1], K as usize);
-        let mut serve = |page| plain::lru::request(K as usize, 1, &mut count, &mut cache, &mut evicted, page);
+        let mut serve = |page| P::PLAIN_REQUEST(K as usize, 1, &mut count, &mut cache, &mut evicted, page);
         pages.iter().map(|&page| u64::from(serve(page))).sum::<u64>()
     };
-    table.row("one LRU request", what.to_string(), CALLS, &mut { ours }, &mut { plain });
+    table.row(P::REQUEST_JOB, what.to_string(), CALLS, &mut { ours }, &mut { plain });
+}
+
+fn time_policy<P: Timed>(table: &mut Table) {
+    const NEW: fn(usize) -> usize = |call| (call + 256) % 257;
+    time_over_traces::<P>(table);
+    time_requests::<P>(table, "oldest page", P::FIRST, scattered);
+    time_requests::<P>(table, "newest page", |_| 255, scattered);
+    time_requests::<P>(table, "new page", NEW, scattered);
+    time_requests::<P>(table, "oldest page, equal low halves", P::FIRST, low_half_zero);
+    time_requests::<P>(table, "new page, equal low halves", NEW, low_half_zero);
 }
 
 fn time_layers(table: &mut Table) {
@@ -272,12 +316,10 @@ fn main() {
         time_min_schedule(&mut table);
     }
     if wanted("lru") {
-        time_lru(&mut table);
-        time_lru_requests(&mut table, "oldest page", |call| call % 256, scattered);
-        time_lru_requests(&mut table, "newest page", |_| 255, scattered);
-        time_lru_requests(&mut table, "new page", |call| (call + 256) % 257, scattered);
-        time_lru_requests(&mut table, "oldest page, equal low halves", |call| call % 256, low_half_zero);
-        time_lru_requests(&mut table, "new page, equal low halves", |call| (call + 256) % 257, low_half_zero);
+        time_policy::<Lru>(&mut table);
+    }
+    if wanted("fifo") {
+        time_policy::<Fifo>(&mut table);
     }
     if wanted("layers") {
         time_layers(&mut table);

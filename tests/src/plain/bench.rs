@@ -1,7 +1,7 @@
-//! The four lines for a sound trace.
+//! The lines for a sound trace.
 
 use super::judge::trace_pages;
-use super::{layers, lru, min};
+use super::{fifo, layers, lru, min};
 
 pub fn lines(input: &[u8]) -> Option<String> {
     let pages = trace_pages(input)?;
@@ -9,9 +9,10 @@ pub fn lines(input: &[u8]) -> Option<String> {
     let a = u32::from(u16::from_le_bytes(input[4..6].try_into().ok()?));
     let best = min::run(k, a, &pages, |_, _| {});
     let recent = lru::run(k, a, &pages);
+    let oldest = fifo::run(k, a, &pages);
     let (bundles, table) = layers::run(k, a, &pages);
     Some(format!(
-        "trace {} {} {}\nmin {} {}\nlru {} {}\nlayers {} {} {}\n",
+        "trace {} {} {}\nmin {} {}\nlru {} {}\nfifo {} {}\nlayers {} {} {}\n",
         k,
         a,
         pages.len(),
@@ -19,6 +20,8 @@ pub fn lines(input: &[u8]) -> Option<String> {
         best.1,
         recent.0,
         recent.1,
+        oldest.0,
+        oldest.1,
         bundles,
         table.s,
         table.revealed()
