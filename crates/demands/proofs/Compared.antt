@@ -1,7 +1,7 @@
 -- The comparisons of demand 3 hold, for every k from 1 to 256 and a from 1 to k.
 use Prim.Native.Nat.{ℕ, _*_, _≤_}
 use native.Mathlib.Omega.{arith}
-use mathlib.Core.List.{List, []}
+use mathlib.Core.List.{List}
 use mathlib.Core.Path.{_≡_, refl, ap, sym, _∙_}
 use Rattle.paging.specs.Min.{bestCount}
 use Rattle.paging.specs.Refusals.{SizesRight}

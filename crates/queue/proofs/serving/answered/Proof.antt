@@ -1,5 +1,5 @@
 -- `queue::serving::answered` meets its contract: each case tells what its definition says.
-use mathlib.Core.Path.{_≡_, refl}
+use mathlib.Core.Path.{refl}
 use native.Mathlib.Omega.{arith}
 use borrow.Author.Needs.{needs}
 use Rattle.queue.proofs.serving.answered.Statement.{statement}
