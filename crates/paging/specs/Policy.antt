@@ -41,8 +41,8 @@ isLoad bundled = true
 abbrev pub kindOf : (k p : ℕ) → (held : List ℕ) → Kind
 kindOf k p held = pick (mem p held) hit (pick (ltb (length held) k) load bundled)
 
--- the pages held after a hit. `Keeping` (src/lib.rt) says how the list is kept: by request, from the least to the most recently requested page,
--- it becomes the last; by load, from the oldest load to the newest, no page moves
+-- the pages held after a hit on p. `Keeping` (src/lib.rt) says how the list is kept: by request it runs from the least to the most recently
+-- requested page, and p becomes the last; by load it runs from the oldest load to the newest, and no page moves
 abbrev pub afterHit : Keeping → ℕ → (held : List ℕ) → List ℕ
 afterHit ByRequest p held = toEnd p held
 afterHit ByLoad p held = held

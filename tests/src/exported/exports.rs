@@ -12,58 +12,9 @@ mod c {
     type BytesMut = *mut u8;
     type Out = *mut u64;
 
-    /// A request of a policy that keeps its pages in a queue.
-    pub type QueueRequest = unsafe extern "C" fn(
-        k: u32,
-        a: u32,
-        requests: u32,
-        loads: u32,
-        evictions: u32,
-        count: u32,
-        cache: NumbersMut,
-        cache_len: usize,
-        evicted: NumbersMut,
-        evicted_len: usize,
-        page: u32,
-        out: Out,
-        out_len: usize,
-    );
-
     #[link(name = "exports", kind = "static")]
     extern "C" {
         pub fn sizes_refusal(k: u32, a: u32) -> u32;
-        pub fn lru_request(
-            k: u32,
-            a: u32,
-            requests: u32,
-            loads: u32,
-            evictions: u32,
-            count: u32,
-            cache: NumbersMut,
-            cache_len: usize,
-            evicted: NumbersMut,
-            evicted_len: usize,
-            page: u32,
-            out: Out,
-            out_len: usize,
-        );
-        pub fn lru_over_trace(k: u32, a: u32, trace: Numbers, trace_len: usize, out: Out, out_len: usize);
-        pub fn fifo_request(
-            k: u32,
-            a: u32,
-            requests: u32,
-            loads: u32,
-            evictions: u32,
-            count: u32,
-            cache: NumbersMut,
-            cache_len: usize,
-            evicted: NumbersMut,
-            evicted_len: usize,
-            page: u32,
-            out: Out,
-            out_len: usize,
-        );
-        pub fn fifo_over_trace(k: u32, a: u32, trace: Numbers, trace_len: usize, out: Out, out_len: usize);
         pub fn min_count(k: u32, a: u32, trace: Numbers, trace_len: usize, out: Out, out_len: usize);
         pub fn min_schedule(
             k: u32,
@@ -196,63 +147,62 @@ pub type QueueRequest = fn(&Record, u32, &mut [u32], &mut [u32], u32, &mut [u64]
 /// A policy over a whole trace: refusal, bundles, loads.
 pub type OverTrace = fn(u32, u32, &[u32], &mut [u64]);
 
-fn queue_request(
-    call: c::QueueRequest,
-    record: &Record,
-    count: u32,
-    cache: &mut [u32],
-    evicted: &mut [u32],
-    page: u32,
-    out: &mut [u64],
-) {
-    unsafe {
-        call(
-            record.k,
-            record.a,
-            record.requests,
-            record.loads,
-            record.evictions,
-            count,
-            cache.as_mut_ptr(),
-            cache.len(),
-            evicted.as_mut_ptr(),
-            evicted.len(),
-            page,
-            out.as_mut_ptr(),
-            out.len(),
-        )
-    }
+/// The calls of such a policy, declared and made safe.
+macro_rules! queue_calls {
+    ($request:ident, $over_trace:ident) => {
+        pub fn $request(
+            record: &Record,
+            count: u32,
+            cache: &mut [u32],
+            evicted: &mut [u32],
+            page: u32,
+            out: &mut [u64],
+        ) {
+            extern "C" {
+                fn $request(
+                    k: u32,
+                    a: u32,
+                    requests: u32,
+                    loads: u32,
+                    evictions: u32,
+                    count: u32,
+                    cache: *mut u32,
+                    cache_len: usize,
+                    evicted: *mut u32,
+                    evicted_len: usize,
+                    page: u32,
+                    out: *mut u64,
+                    out_len: usize,
+                );
+            }
+            let Record { k, a, requests, loads, evictions } = *record;
+            let (places, room, fields) = (cache.len(), evicted.len(), out.len());
+            let (cache, evicted, out) = (cache.as_mut_ptr(), evicted.as_mut_ptr(), out.as_mut_ptr());
+            unsafe {
+                $request(
+                    k, a, requests, loads, evictions, count, cache, places, evicted, room, page, out, fields,
+                )
+            }
+        }
+
+        pub fn $over_trace(k: u32, a: u32, trace: &[u32], out: &mut [u64]) {
+            extern "C" {
+                fn $over_trace(
+                    k: u32,
+                    a: u32,
+                    trace: *const u32,
+                    trace_len: usize,
+                    out: *mut u64,
+                    out_len: usize,
+                );
+            }
+            unsafe { $over_trace(k, a, trace.as_ptr(), trace.len(), out.as_mut_ptr(), out.len()) }
+        }
+    };
 }
 
-pub fn lru_request(
-    record: &Record,
-    count: u32,
-    cache: &mut [u32],
-    evicted: &mut [u32],
-    page: u32,
-    out: &mut [u64],
-) {
-    queue_request(c::lru_request, record, count, cache, evicted, page, out);
-}
-
-pub fn lru_over_trace(k: u32, a: u32, trace: &[u32], out: &mut [u64]) {
-    unsafe { c::lru_over_trace(k, a, trace.as_ptr(), trace.len(), out.as_mut_ptr(), out.len()) }
-}
-
-pub fn fifo_request(
-    record: &Record,
-    count: u32,
-    cache: &mut [u32],
-    evicted: &mut [u32],
-    page: u32,
-    out: &mut [u64],
-) {
-    queue_request(c::fifo_request, record, count, cache, evicted, page, out);
-}
-
-pub fn fifo_over_trace(k: u32, a: u32, trace: &[u32], out: &mut [u64]) {
-    unsafe { c::fifo_over_trace(k, a, trace.as_ptr(), trace.len(), out.as_mut_ptr(), out.len()) }
-}
+queue_calls!(lru_request, lru_over_trace);
+queue_calls!(fifo_request, fifo_over_trace);
 
 /// Refusal, bundles, loads.
 pub fn min_count(k: u32, a: u32, trace: &[u32], out: &mut [u64]) {

@@ -17,7 +17,7 @@ use Rattle.queue.specs.declared.serving.Found.the-variants.{Held, Room, 
 abbrev pub foundIn : (k page : ℕ) → (held : List ℕ) → Found
 foundIn k page held = pick (mem page held) (Held (place page held)) (pick (ltb (length held) k) Room Full)
 
--- the pages held after a load: the first `out` go as a bundle, first first; then the page is added. A load without a bundle is the case 0
+-- the pages held after a load: the first `out` go as a bundle, in their order; then the page is added. A load without a bundle is the case 0
 abbrev pub loaded : (out page : ℕ) → (held : List ℕ) → List ℕ
 loaded out page held = drop out held ++ (page ∷ [])
 
