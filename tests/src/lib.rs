@@ -1,5 +1,5 @@
-//! The alpha-paging bench a second time, written from document 01 and, for oldest load first, Req 01 alone,
-//! and what the test programs share. Nothing here is taken from the proved crates.
+//! The alpha-paging bench a second time, written from document 01 and document 02's requests alone, and what
+//! the test programs share. Nothing here is taken from the proved crates.
 //!
 //! `model` is the second implementation: slow where slow is plainer.
 //! `plain` has the versions without checks that the timings compare with.

@@ -1,4 +1,5 @@
-//! Document 01's rules, and Req 01's for oldest load first: the limits, and a file for each part.
+//! Document 01's rules, Req 01's for oldest load first, and Req 02's for what the layers answer and count by
+//! rule: the limits, and a file for each part.
 
 pub mod fifo;
 pub mod files;

@@ -18,6 +18,8 @@ const LAYERS: u16 = b'l' as u16 + 256 * b'a' as u16;
 
 const STEPS: u16 = b's' as u16 + 256 * b't' as u16;
 
+const RULES: u16 = b'r' as u16 + 256 * b'u' as u16;
+
 const CACHE: u16 = b'c' as u16 + 256 * b'a' as u16;
 
 const LOAD: u16 = b'l' as u16 + 256 * b'o' as u16;
@@ -46,6 +48,7 @@ pub fn answer(
         OLDEST => traces::fifo(n, first),
         LAYERS => traces::layers(n, first, second, third),
         STEPS => traces::steps(n, first, second, third),
+        RULES => traces::rules(n, first, second, third),
         CACHE => requests::lru(n, first, second),
         LOAD => requests::fifo(n, first, second),
         TABLE => requests::table(n, first, second),

@@ -31,7 +31,7 @@ pub(crate) fn answered(reply: Reply) {
     show::answer(reply.refusal, &[reply.answer; 1]);
 }
 
-// The layers' record: k, a, requests, evictions, s.
+// The layers' record: k, a, requests, evictions, s, and the counts of the three rules.
 fn record(n: Numbers) -> LayersRun {
     LayersRun {
         k: n.0,
@@ -39,14 +39,26 @@ fn record(n: Numbers) -> LayersRun {
         requests: n.2,
         evictions: n.3,
         s: n.4,
+        appends: n.5,
+        joins: n.6,
+        lifts: n.7,
     }
 }
 
-// A layers request: the record and the page; the table's pages and numbers. The answer is s after it.
+// A layers request: the record and the page; the table's pages and numbers. The answer is the rule that applied, then s and the counts after it.
 pub(crate) fn table(n: Numbers, pages: &mut [u32], numbers: &mut [u32]) {
-    let reply = layers::request(record(n), pages, numbers, n.5);
+    let reply = layers::request(record(n), pages, numbers, n.8);
     let after = reply.run;
-    show::answer(reply.refusal, &[after.s; 1]);
+    show::answer(
+        reply.refusal,
+        &[
+            reply.answer,
+            after.s,
+            after.appends,
+            after.joins,
+            after.lifts,
+        ],
+    );
 }
 
 pub(crate) fn revealed(n: Numbers, pages: &[u32], numbers: &[u32]) {

@@ -2,6 +2,7 @@
 use crate::requests;
 use cases_rows::row::Numbers;
 use cases_rows::show;
+use layers::LayersRun;
 use queue::Run;
 
 pub(crate) fn min(n: Numbers, trace: &[u32]) {
@@ -36,4 +37,17 @@ pub(crate) fn steps(n: Numbers, trace: &[u32], cache: &mut [u32], evicted: &mut 
         count = reply.count;
         i += 1;
     }
+}
+
+// The layers' answers to one request after the other, from the empty record on; then the record's counts of the three rules.
+pub(crate) fn rules(n: Numbers, trace: &[u32], pages: &mut [u32], numbers: &mut [u32]) {
+    let mut run = LayersRun::empty(n.0, n.1);
+    let mut i = 0;
+    while i < trace.len() {
+        let reply = layers::request(run, pages, numbers, trace[i]);
+        show::answer(reply.refusal, &[reply.answer; 1]);
+        run = reply.run;
+        i += 1;
+    }
+    show::list(&[run.appends, run.joins, run.lifts]);
 }

@@ -13,6 +13,8 @@ pub struct Numbers(
     pub u32,
     pub u32,
     pub u32,
+    pub u32,
+    pub u32,
 );
 
 // The call, as the first two letters of its name in a 16-bit number, the first in the lower byte, and 0 for a remark; the call's numbers; and
@@ -30,7 +32,7 @@ impl Row {
     pub fn empty() -> Row {
         Row {
             call: 0,
-            numbers: Numbers(0, 0, 0, 0, 0, 0, 0),
+            numbers: Numbers(0, 0, 0, 0, 0, 0, 0, 0, 0),
             first: 0,
             second: 0,
             third: 0,
@@ -41,7 +43,7 @@ impl Row {
     fn without_call(self) -> Row {
         Row {
             call: 0,
-            numbers: Numbers(0, 0, 0, 0, 0, 0, 0),
+            numbers: Numbers(0, 0, 0, 0, 0, 0, 0, 0, 0),
             first: self.first,
             second: self.second,
             third: self.third,
@@ -78,7 +80,7 @@ fn behind(
     requires { ⌜ colon ≤ length (now line) ⌝ }
 {
     let call = call_at(line, colon);
-    let mut list = [0u32; 7];
+    let mut list = [0u32; 9];
     let given = text::list(line, colon, 0, &mut list);
     let numbers = in_order(&list);
     let one = text::list(line, given.next, before.first, first);
@@ -93,7 +95,7 @@ fn behind(
     }
 }
 
-fn in_order(list: &[u32; 7]) -> Numbers {
+fn in_order(list: &[u32; 9]) -> Numbers {
     Numbers(
         list[0],
         list[1],
@@ -102,6 +104,8 @@ fn in_order(list: &[u32; 7]) -> Numbers {
         list[4],
         list[5],
         list[6],
+        list[7],
+        list[8],
     )
 }
 

@@ -1,3 +1,4 @@
 pub mod LayersLists
+pub mod Rules
 pub mod Compared
 mod Cases

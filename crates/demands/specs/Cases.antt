@@ -16,14 +16,16 @@ use Rattle.records.specs.Bytes.{traceBytes}
 use Rattle.queue.specs.Calls.{cacheOf, evictedOf, totalsOf}
 use Rattle.queue.specs.Serving.{emptyRun}
 use Rattle.queue.specs.Standing.{Call, State, afterCalls, emptyState}
-use Rattle.layers.specs.Calls.{requestRefusal}
+use Rattle.layers.specs.Calls.{requestRefusal, requestReply}
 use Rattle.layers.specs.Questions.{Verdict, refusedWith, possibleSet, countDiffers, brokenAt, verdict, layersIn}
 use Rattle.layers.specs.Traces.{traceTotals}
+use Rattle.layers.specs.declared.LayersReply.{LayersReply}
+use Rattle.layers.specs.declared.LayersRun.{LayersRun}
 use Rattle.min.specs.Calls.{countsOf}
 use Rattle.report.specs.Calls.{counts, layersCounts, reportOf}
 use Rattle.report.specs.declared.Report.{Report}
 use Rattle.demands.specs.Demand3.{minEntries}
-use Rattle.demands.specs.LayersCalls.{LayersCall, request, LayersState, layersStart, layersAfterCalls}
+use Rattle.demands.specs.LayersCalls.{LayersCall, request, LayersState, layersStart, layersNext, layersAfterCalls}
 
 pub data Row : Type 0 where
   -- the bench's report on a file
@@ -42,6 +44,10 @@ pub data Row : Type 0 where
   tabled : (k a places : ℕ) (pages tablePages numbers : List ℕ) → Row
   -- after some requests, a set's verdict, and for each layer from 0 to s whether the rule breaks at it: a "no" names one of those
   asked : (k a places : ℕ) (pages set : List ℕ) (said : Verdict) (layers : List Bool) → Row
+  -- what the requests to the layers answer one after the other, from the empty record on, and the three counts of the record after them
+  answers : (k a places : ℕ) (pages said counts : List ℕ) → Row
+  -- a request to the layers on a record and a table answers these fields: the refusal, the record's eight, the rule
+  replies : (run : LayersRun) (pages numbers : List ℕ) (page : ℕ) (fields : List ℕ) → Row
   -- after some requests, the refusal of a further one, 0 for none
   refuses : (k a places : ℕ) (pages : List ℕ) (page number : ℕ) → Row
 
@@ -61,6 +67,11 @@ layersCalls (p ∷ ps) = request p ∷ layersCalls ps
 
 abbrev pub layersAt : (k a places : ℕ) → List ℕ → LayersState
 layersAt k a places pages = layersAfterCalls (layersCalls pages) (layersStart k a places)
+
+-- the answers to requests for some pages
+abbrev pub rulesTold : List ℕ → LayersState → List ℕ
+rulesTold [] x = []
+rulesTold (p ∷ ps) x = requestReply (x .run) (x .pages) (x .numbers) p .answer ∷ rulesTold ps (layersNext x (request p))
 
 -- whether the rule breaks at each layer from 0 to i
 abbrev pub breaks : (i : ℕ) → LayersState → List ℕ → List Bool
@@ -91,6 +102,11 @@ named possibleSet = 0
 named countDiffers = 0
 named (brokenAt layer) = layer
 
+abbrev pub fieldsOf : LayersReply → List ℕ
+fieldsOf r =
+    r .refusal ∷ r .run .k ∷ r .run .a ∷ r .run .requests ∷ r .run .evictions ∷ r .run .s
+    ∷ r .run .appends ∷ r .run .joins ∷ r .run .lifts ∷ r .answer ∷ []
+
 abbrev pub sameTest : Bool → Bool → Bool
 sameTest true y = y
 sameTest false true = false
@@ -118,6 +134,10 @@ right (tabled k a places pages tablePages numbers) =
 right (asked k a places pages set said layers) =
     let x = layersAt k a places pages in
     samePages (spelled (verdict (x .run) (x .pages) (x .numbers) set (named said))) (spelled said) and sameTests (breaks (x .run .s) x set) layers
+right (answers k a places pages said counts) =
+    let run = layersAt k a places pages .run in
+    samePages (rulesTold pages (layersStart k a places)) said and samePages (run .appends ∷ run .joins ∷ run .lifts ∷ []) counts
+right (replies run pages numbers page fields) = samePages (fieldsOf (requestReply run pages numbers page)) fields
 right (refuses k a places pages page number) =
     let x = layersAt k a places pages in eqb (requestRefusal (x .run) (x .pages) (x .numbers) page) number
 
@@ -180,6 +200,22 @@ requestedCases =
     ∷ leaves ByLoad 3 1 1 (5 ∷ 9 ∷ 9 ∷ 9 ∷ []) 5 (5 ∷ 0 ∷ 0 ∷ 9 ∷ [])
     ∷ leaves ByLoad 3 1 3 (1 ∷ 2 ∷ 3 ∷ []) 1 (1 ∷ 2 ∷ 3 ∷ [])
     ∷ leaves ByRequest 3 1 3 (1 ∷ 2 ∷ 3 ∷ []) 1 (2 ∷ 3 ∷ 1 ∷ [])
+    -- 02. which rule applied at each request of the shift, 1 for 1a, 2 for 1b and 3 for 1c, and how often each did
+    ∷ answers 3 2 8 shift (1 ∷ 1 ∷ 1 ∷ 2 ∷ 3 ∷ 1 ∷ 2 ∷ 1 ∷ []) (5 ∷ 2 ∷ 1 ∷ [])
+    ∷ answers 3 2 8 (take 7 shift) (1 ∷ 1 ∷ 1 ∷ 2 ∷ 3 ∷ 1 ∷ 2 ∷ []) (4 ∷ 2 ∷ 1 ∷ [])
+    -- k 2, a 2, pages 1 2 3 4 4 5: 1b where everything joins L0 is 2 all the same
+    ∷ answers 2 2 3 (1 ∷ 2 ∷ 3 ∷ 4 ∷ 4 ∷ 5 ∷ []) (1 ∷ 1 ∷ 2 ∷ 1 ∷ 3 ∷ 2 ∷ []) (3 ∷ 2 ∷ 1 ∷ [])
+    -- k 2, a 1, table of 2, pages 1 2 3 1: page 3 is refused with 10, answers 0 and is not counted
+    ∷ answers 2 1 2 (1 ∷ 2 ∷ 3 ∷ 1 ∷ []) (1 ∷ 1 ∷ 0 ∷ 3 ∷ []) (2 ∷ 0 ∷ 1 ∷ [])
+    -- a full counter is 12, with zero in every other field
+    ∷ replies (record { k = 2; a = 1; requests = 4294967295; evictions = 0; s = 2; appends = 2; joins = 0; lifts = 4294967293 }) (1 ∷ 2 ∷ []) (1 ∷ 2 ∷ []) 1
+    (12 ∷ replicate 9 0)
+    -- one request before, the third count rises
+    ∷ replies (record { k = 2; a = 1; requests = 4294967294; evictions = 0; s = 2; appends = 2; joins = 0; lifts = 4294967292 }) (1 ∷ 2 ∷ []) (1 ∷ 2 ∷ []) 1
+    (0 ∷ 2 ∷ 1 ∷ 4294967295 ∷ 0 ∷ 2 ∷ 2 ∷ 0 ∷ 4294967293 ∷ 3 ∷ [])
+    -- counts that add up to 2 to the 32nd and no requests, and joins apart from evictions, are 9
+    ∷ replies (record { k = 2; a = 1; requests = 0; evictions = 0; s = 0; appends = 4294967295; joins = 0; lifts = 1 }) (0 ∷ []) (0 ∷ []) 1 (9 ∷ replicate 9 0)
+    ∷ replies (record { k = 2; a = 1; requests = 1; evictions = 0; s = 1; appends = 0; joins = 1; lifts = 0 }) (1 ∷ []) (1 ∷ []) 1 (9 ∷ replicate 9 0)
     ∷ []
 
 abbrev pub allRight : List Row → Bool

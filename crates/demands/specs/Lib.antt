@@ -1,3 +1,4 @@
 pub mod LayersCalls
+pub mod Rules
 pub mod Demand3
 pub mod Cases

@@ -23,7 +23,9 @@ abbrev pub scheduledFields : Scheduled → List ℕ
 scheduledFields r = r .refusal ∷ r .bundles ∷ r .loads ∷ r .length ∷ []
 
 abbrev pub layersReplyFields : LayersReply → List ℕ
-layersReplyFields r = r .refusal ∷ r .run .k ∷ r .run .a ∷ r .run .requests ∷ r .run .evictions ∷ r .run .s ∷ []
+layersReplyFields r =
+    r .refusal ∷ r .run .k ∷ r .run .a ∷ r .run .requests ∷ r .run .evictions ∷ r .run .s
+    ∷ r .run .appends ∷ r .run .joins ∷ r .run .lifts ∷ r .answer ∷ []
 
 abbrev pub revealedFields : RevealedReply → List ℕ
 revealedFields r = r .refusal ∷ r .count ∷ []

@@ -7,6 +7,6 @@ abbrev pub queueRun : (k a requests loads evictions : ℕ) → Run
 queueRun k a requests loads evictions =
     record { k = k; a = a; requests = requests; loads = loads; evictions = evictions }
 
-abbrev pub layersRun : (k a requests evictions s : ℕ) → LayersRun
-layersRun k a requests evictions s =
-    record { k = k; a = a; requests = requests; evictions = evictions; s = s }
+abbrev pub layersRun : (k a requests evictions s appends joins lifts : ℕ) → LayersRun
+layersRun k a requests evictions s appends joins lifts =
+    record { k = k; a = a; requests = requests; evictions = evictions; s = s; appends = appends; joins = joins; lifts = lifts }

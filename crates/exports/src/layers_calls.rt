@@ -11,7 +11,7 @@ use crate::store;
 use layers::LayersRun;
 use layers::PossibleAnswer;
 
-// A request: refusal, the record's k, a, requests, evictions and s.
+// A request: refusal, the record's k, a, requests, evictions, s and three counts, then the rule that applied.
 #[no_mangle]
 pub extern "C" fn layers_request(
     k: u32,
@@ -19,15 +19,18 @@ pub extern "C" fn layers_request(
     requests: u32,
     evictions: u32,
     s: u32,
+    appends: u32,
+    joins: u32,
+    lifts: u32,
     pages: &mut [u32],
     numbers: &mut [u32],
     page: u32,
     out: &mut [u64],
 )
     ensures { λ _. ⌜ (now (out .exit)
-        ≡ pasted (layersReplyFields (requestReply (layersRun k a requests evictions s) (now (pages .entry)) (now (numbers .entry)) page)) (now (out .entry)))
-        × (now (pages .exit) ≡ pagesNext (layersRun k a requests evictions s) (now (pages .entry)) (now (numbers .entry)) page)
-        × (now (numbers .exit) ≡ numbersNext (layersRun k a requests evictions s) (now (pages .entry)) (now (numbers .entry)) page) ⌝ }
+        ≡ pasted (layersReplyFields (requestReply (layersRun k a requests evictions s appends joins lifts) (now (pages .entry)) (now (numbers .entry)) page)) (now (out .entry)))
+        × (now (pages .exit) ≡ pagesNext (layersRun k a requests evictions s appends joins lifts) (now (pages .entry)) (now (numbers .entry)) page)
+        × (now (numbers .exit) ≡ numbersNext (layersRun k a requests evictions s appends joins lifts) (now (pages .entry)) (now (numbers .entry)) page) ⌝ }
 {
     let run = LayersRun {
         k,
@@ -35,12 +38,15 @@ pub extern "C" fn layers_request(
         requests,
         evictions,
         s,
+        appends,
+        joins,
+        lifts,
     };
     let all = reply_fields(layers::request(run, pages, numbers, page));
     store::fields(&all, out);
 }
 
-fn reply_fields(reply: layers::LayersReply) -> [u64; 6]
+fn reply_fields(reply: layers::LayersReply) -> [u64; 10]
     ensures { λ r. ⌜ r ≡ layersReplyFields reply ⌝ }
 {
     let after = reply.run;
@@ -51,6 +57,10 @@ fn reply_fields(reply: layers::LayersReply) -> [u64; 6]
         after.requests as u64,
         after.evictions as u64,
         after.s as u64,
+        after.appends as u64,
+        after.joins as u64,
+        after.lifts as u64,
+        reply.answer as u64,
     ]
 }
 
@@ -62,12 +72,15 @@ pub extern "C" fn layers_revealed(
     requests: u32,
     evictions: u32,
     s: u32,
+    appends: u32,
+    joins: u32,
+    lifts: u32,
     pages: &[u32],
     numbers: &[u32],
     out: &mut [u64],
 )
     ensures { λ _. ⌜ now (out .exit)
-        ≡ pasted (revealedFields (revealedReply (layersRun k a requests evictions s) (now (pages .entry)) (now (numbers .entry)))) (now (out .entry)) ⌝ }
+        ≡ pasted (revealedFields (revealedReply (layersRun k a requests evictions s appends joins lifts) (now (pages .entry)) (now (numbers .entry)))) (now (out .entry)) ⌝ }
 {
     let run = LayersRun {
         k,
@@ -75,6 +88,9 @@ pub extern "C" fn layers_revealed(
         requests,
         evictions,
         s,
+        appends,
+        joins,
+        lifts,
     };
     let all = revealed_fields(layers::revealed(run, pages, numbers));
     store::fields(&all, out);
@@ -94,12 +110,15 @@ pub extern "C" fn layers_possible(
     requests: u32,
     evictions: u32,
     s: u32,
+    appends: u32,
+    joins: u32,
+    lifts: u32,
     pages: &[u32],
     numbers: &[u32],
     set: &[u32],
     out: &mut [u64],
 )
-    ensures { λ _. ⌜ PossibleStored (layersRun k a requests evictions s) (now (pages .entry)) (now (numbers .entry)) (now (set .entry))
+    ensures { λ _. ⌜ PossibleStored (layersRun k a requests evictions s appends joins lifts) (now (pages .entry)) (now (numbers .entry)) (now (set .entry))
         (now (out .entry)) (now (out .exit)) ⌝ }
 {
     let run = LayersRun {
@@ -108,6 +127,9 @@ pub extern "C" fn layers_possible(
         requests,
         evictions,
         s,
+        appends,
+        joins,
+        lifts,
     };
     let all = possible_fields(layers::possible(run, pages, numbers, set));
     store::fields(&all, out);

@@ -26,7 +26,7 @@ use Rattle.layers.specs.declared.PossibleAnswer.the-variants.{Yes, Count
 use Rattle.layers.specs.inner.Sizes.{Tallied, numbered, sumBelow, Walked}
 use Rattle.layers.proofs.Order.{ordered-sorted, revealed-last}
 use Rattle.layers.proofs.Refusing.{StateReady, state-pass, state-fall, sound}
-use Rattle.layers.proofs.WellFormed.{facts, size-times, size-numbered}
+use Rattle.layers.proofs.WellFormed.{facts, well-table, size-times, size-numbered}
 
 -- Revealed pages: the layers from s down
 
@@ -97,7 +97,7 @@ pub revealed-told : (run : LayersRun) (pages numbers : List ℕ) (c : ℕ) → S
 unfolding revealedReply
 revealed-told run pages numbers c r told =
     let rows = rowsOf numbers pages in
-    let f = facts run rows (r .formed) in
+    let f = facts run rows (well-table run rows (r .formed)) in
     let e : c ≡ revealed (run .s) (usedRows rows) = told ∙ revealed-used numbers pages (run .s) (r .even) in
     record {
       reply = rw (state-pass run pages numbers r 0, e);

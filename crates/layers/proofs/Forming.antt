@@ -16,7 +16,8 @@ use Rattle.lists.proofs.Sorting.{row-tie}
 use Rattle.paging.specs.Rows.{pagesOf, unused, usedRows, tableOf}
 use Rattle.paging.specs.Table.{aboveZero, sizeOf}
 use Rattle.paging.proofs.Forming.{FormedRows, used-table}
-use Rattle.layers.specs.Formed.{isUnused, follows, orderedBehind, ordered, present, singleAbove, layersWellFormed}
+use Rattle.layers.specs.Formed.{isUnused, follows, orderedBehind, ordered, present, singleAbove, tableFormed}
+use Rattle.layers.specs.declared.LayersRun.{LayersRun}
 
 count-unused : (f : Row → Bool) (m : ℕ) → f unused ≡ false → count f (replicate m unused) ≡ 0
 count-unused f zero e = refl
@@ -72,10 +73,12 @@ single-in limit (suc i) rows h =
     (single-in limit i rows h)
 
 -- a table that holds such rows is well formed
-pub formed-table : (k a requests evictions s places : ℕ) (rows : List Row) → FormedRows k a s rows → evictions ≤ requests
-    → layersWellFormed (record { k = k; a = a; requests = requests; evictions = evictions; s = s }) (tableOf places rows) ≡ true
-unfolding layersWellFormed
-formed-table k a requests evictions s places rows F le =
+pub formed-table : (run : LayersRun) (places : ℕ) (rows : List Row) → FormedRows (run .k) (run .a) (run .s) rows → run .evictions ≤ run .requests
+    → tableFormed run (tableOf places rows) ≡ true
+unfolding tableFormed
+formed-table run places rows F le =
+    let s = run .s in
+    let limit = run .k - run .a in
     let table = tableOf places rows in
     let size : (j : ℕ) → 0 < j → sizeOf j table ≡ sizeOf j rows = λ j h. count-table (λ row. eqb (row .number) j) places rows (omega tests) in
     let pages : distinct (pagesOf (usedRows table)) ≡ true =
@@ -87,7 +90,7 @@ formed-table k a requests evictions s places rows F le =
     (and-i _ _ (all-present-in s table (λ j h g. omega (arith, size j h, F .all-present j h g)))
     (and-i _ _ (eq-eqb _ _ (count-table (λ row. ltb s (row .number)) places rows (omega tests) ∙ F .below))
     (and-i _ _ (le-leb _ _ (F .most))
-    (and-i _ _ (single-in (k - a) s table (λ j h. omega (arith, size j (omega arith), F .single j h)))
-    (cases (ltb (k - a) s)
+    (and-i _ _ (single-in limit s table (λ j h. omega (arith, size j (omega arith), F .single j h)))
+    (cases (ltb limit s)
     (λ e. or-l _ _ e)
     (λ e. or-r _ _ (single-in 0 s table (λ j h. omega (arith, size j h, F .few-single (ltb-false _ _ e) j h)))))))))))

@@ -1,5 +1,5 @@
 -- The refusals of the calls: which one falls, and what is known where none does.
-use Prim.Native.Nat.{ℕ, _+_, _≤_}
+use Prim.Native.Nat.{ℕ, _<_}
 use native.Mathlib.Omega.{arith}
 use mathlib.Core.Bool.{true, false, not}
 use mathlib.Core.List.{List}
@@ -7,9 +7,8 @@ use mathlib.Core.Path.{_≡_, sym, ap, _∙_}
 use lib.Dec.{eqb, ltb}
 use lib.ListN.{length}
 use borrow.Author.Tests.{eq-eqb, ne-eqb, eqb-true, leb-true, not-false}
-use Rattle.lists.specs.Pages.{bit}
 use Rattle.lists.specs.Sorting.{Row}
-use Rattle.paging.specs.Layers.{isJoin, topAfter}
+use Rattle.paging.specs.Layers.{topAfter}
 use Rattle.paging.specs.Refusals.{sizesRefusal, SizesRight, refuse}
 use Rattle.paging.specs.Rows.{rowsOf, numbersOf, pagesOf, usedRows, tableOf}
 use Rattle.paging.specs.Table.{ruleIn}
@@ -18,10 +17,11 @@ use Rattle.paging.proofs.Rows.{numbers-back, pages-back}
 use Rattle.table.specs.Serving.{Sound, SteppedTo, ruleOf}
 use Rattle.table.specs.declared.Stepped.{Stepped}
 use Rattle.table.proofs.Serving.{used-rows, used-rule}
-use Rattle.layers.specs.Calls.{stateRefusal, requestRefusal, requestReply, pagesNext, numbersNext, refused, rowsNext}
+use Rattle.layers.specs.Calls.{stateRefusal, requestRefusal, replyBy, requestReply, pagesNext, numbersNext, refused, rowsNext}
 use Rattle.layers.specs.Formed.{layersWellFormed}
 use Rattle.layers.specs.declared.LayersRun.{LayersRun}
-use Rattle.layers.proofs.WellFormed.{facts}
+use Rattle.layers.specs.inner.Counting.{CountersFit}
+use Rattle.layers.proofs.WellFormed.{facts, well-table, well-counts}
 
 -- The state
 
@@ -78,11 +78,16 @@ pub sound : (run : LayersRun) (pages numbers : List ℕ) → StateReady run page
 sound run pages numbers r =
     record {
       sizes = r .sizes;
-      s-high = leb-true (run .s) (run .k) (facts run (rowsOf numbers pages) (r .formed) .s-low);
+      s-high = leb-true (run .s) (run .k) (facts run (rowsOf numbers pages) (well-table run (rowsOf numbers pages) (r .formed)) .s-low);
     }
 
-pub evictions-low : (run : LayersRun) (pages numbers : List ℕ) → StateReady run pages numbers → run .evictions ≤ run .requests
-evictions-low run pages numbers r = leb-true (run .evictions) (run .requests) (facts run (rowsOf numbers pages) (r .formed) .counted)
+-- no counter of a state that is not refused is above its requests, so each can rise where these can
+pub counters-fit : (run : LayersRun) (pages numbers : List ℕ) → StateReady run pages numbers → run .requests < 4294967295 → CountersFit run
+counters-fit run pages numbers r more =
+    let C = well-counts run (rowsOf numbers pages) (r .formed) in
+    let sum = C .sum in
+    let bundles = C .bundles in
+    record { more = more; evictions-low = omega arith; appends-low = omega arith; joins-low = omega arith; lifts-low = omega arith }
 
 module _ (run : LayersRun) (pages numbers : List ℕ) (p : ℕ) where
   pub request-refused : (number : ℕ) → requestRefusal run pages numbers p ≡ number → (number ≡ 0 → ⊥)
@@ -124,13 +129,11 @@ module _ (run : LayersRun) (pages numbers : List ℕ) (p : ℕ) where
       rows-kept e = t .rows-told ∙ rw e
 
       -- served
-      pub request-served : (b : ℕ) (pages′ numbers′ : List ℕ) → r .full ≡ false → b ≡ bit (isJoin (ruleOf (r .rule))) → rows′ ≡ rowsOf numbers′ pages′
-          → length pages′ ≡ length numbers′
-          → (record { refusal = 0; run = record { k = run .k; a = run .a; requests = run .requests + 1; evictions = run .evictions + b; s = r .s } }
-          ≡ requestReply run pages numbers p)
+      pub request-served : (pages′ numbers′ : List ℕ) → r .full ≡ false → rows′ ≡ rowsOf numbers′ pages′ → length pages′ ≡ length numbers′
+          → (replyBy (ruleOf (r .rule)) (r .s) run ≡ requestReply run pages numbers p)
           × (pages′ ≡ pagesNext run pages numbers p) × (numbers′ ≡ numbersNext run pages numbers p)
       unfolding requestReply pagesNext numbersNext
-      request-served b pages′ numbers′ e eb er l =
+      request-served pages′ numbers′ e er l =
           let free = request-none e in
           let table : rowsOf numbers′ pages′ ≡ tableOf (length pages) (rowsNext run p (rowsOf numbers pages)) =
           sym er ∙ t .rows-told ∙ rw (e, used-rows (run .k) (run .a) (run .s) p (rowsOf numbers pages)) in
@@ -138,7 +141,7 @@ module _ (run : LayersRun) (pages numbers : List ℕ) (p : ℕ) where
           t .rule-told ∙ sym (used-rule (run .k) (run .s) p (rowsOf numbers pages)) in
           let top : r .s ≡ topAfter (ruleIn (run .k) (run .s) p (usedRows (rowsOf numbers pages))) (run .k) (run .a) (run .s) =
           t .top-told ∙ rw (e, used-rule (run .k) (run .s) p (rowsOf numbers pages)) in (
-            rw (free, eb, rule, top),
+            rw (free, rule, top),
             rw free (sym (pages-back numbers′ pages′ l) ∙ ap pagesOf table),
             rw free (sym (numbers-back numbers′ pages′ l) ∙ ap numbersOf table),
           )

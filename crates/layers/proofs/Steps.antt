@@ -9,19 +9,20 @@ use lib.Dec.{eqb, ltb}
 use lib.ListN.{length, replicate, length-append, length-replicate}
 use borrow.Author.Tests.{eq-eqb, ne-eqb, le-ltb, ltb-false}
 use Rattle.lists.specs.Choice.{pick, _and_}
-use Rattle.lists.specs.Pages.{bit, distinct}
+use Rattle.lists.specs.Pages.{bit, count, distinct}
 use Rattle.lists.specs.Sorting.{Row}
 use Rattle.lists.proofs.Choice.{tests, cases, and-i, or-none, or-none-l, or-none-r}
-use Rattle.lists.proofs.Pages.{count-length}
-use Rattle.paging.specs.Layers.{Layers, noLayers, isJoin, topAfter, layered, layersAfter, layerRules, joinCount, holdsUpTo, possible}
+use Rattle.lists.proofs.Pages.{count-snoc}
+use Rattle.paging.specs.Layers.{Layers, LayerRule, noLayers, isAppend, isJoin, isLift, layerRule, topAfter, layersAfter, layerRules, joinCount, holdsUpTo, possible}
 use Rattle.paging.specs.Refusals.{refuse, SizesRight}
 use Rattle.paging.specs.Rows.{rowsOf, numbersOf, pagesOf, unused, usedRows, tableOf}
-use Rattle.paging.specs.Table.{numberIn, ruleIn, revealed, Tabled, nothingYet, tabledNext, tabledAfter}
+use Rattle.paging.specs.Table.{numberIn, revealed, Tabled, nothingYet, tabledNext, tabledAfter}
 use Rattle.paging.proofs.Forming.{FormedRows, no-rows-formed, request-forms, one-row-more, used-table}
 use Rattle.paging.proofs.Refusals.{zero-pass, sizes-taken, trace-right, trace-taken}
 use Rattle.paging.proofs.Rows.{rows-back}
+use Rattle.paging.proofs.Rules.{layers-snoc, rules-length, rules-snoc, rules-add-up}
 use Rattle.paging.proofs.Table.{tabled-map, tabled-top, tabled-joins, tabled-snoc}
-use Rattle.layers.specs.Calls.{emptyRun, stateRefusal, rowsNext, ruleNext, runNext, requestRefusal, requestReply, tableNext, pagesNext, numbersNext}
+use Rattle.layers.specs.Calls.{emptyRun, stateRefusal, rowsNext, ruleNext, ruleNumber, replyNext, requestRefusal, requestReply, tableNext, pagesNext, numbersNext}
 use Rattle.layers.specs.Formed.{layersWellFormed, isUnused}
 use Rattle.layers.specs.Questions.{layersIn, Verdict, possibleSet, countDiffers, brokenAt, refusedWith, verdictOf, judged, possibleRefusal, verdict, PossibleTold}
 use Rattle.layers.specs.Traces.{overflows, allUnused, traceTotals, pagesOver, numbersOver, overRefusal, earlyRefusal}
@@ -29,6 +30,7 @@ use Rattle.layers.specs.declared.LayersRun.{LayersRun}
 use Rattle.layers.specs.declared.PossibleAnswer.{PossibleAnswer}
 use Rattle.layers.specs.declared.PossibleAnswer.the-variants.{Yes, CountDiffers, BrokenAt, Refused}
 use Rattle.layers.proofs.Forming.{formed-table}
+use Rattle.layers.proofs.WellFormed.{well-both}
 
 -- Rows along a trace
 
@@ -42,14 +44,6 @@ formed-from k a pos le (p ∷ ps) T F =
 pub tabled-formed : (k a : ℕ) → 1 ≤ a → a ≤ k → (trace : List ℕ) → FormedRows k a (tabledAfter k a trace nothingYet .s) (tabledAfter k a trace nothingYet .rows)
 tabled-formed k a pos le trace = formed-from k a pos le trace nothingYet (no-rows-formed k a)
 
--- a bundle is counted at most once a request
-pub joins-most : (k a : ℕ) (trace : List ℕ) → joinCount k a trace ≤ length trace
-joins-most k a trace = omega (arith, count-length isJoin (layerRules k a trace noLayers), each trace noLayers)
-  where
-    each : (ps : List ℕ) (L : Layers) → length (layerRules k a ps L) ≡ length ps
-    each [] L = refl
-    each (p ∷ ps) L = ap suc (each ps (layered k a p L))
-
 fits-from : (k a places : ℕ) (trace : List ℕ) (T : Tabled) → length (T .rows) + length trace ≤ places → overflows k a places trace T ≡ false
 fits-from k a places [] T h = refl
 fits-from k a places (p ∷ ps) T h =
@@ -62,6 +56,10 @@ no-overflow k a places trace h = fits-from k a places trace nothingYet (omega ar
 
 -- The state that stands for a trace
 
+-- the rule for a page behind the trace
+abbrev ruleAfter : (k a : ℕ) (trace : List ℕ) (p : ℕ) → LayerRule
+ruleAfter k a trace p = layerRule k (layersAfter k a trace noLayers .of p) (layersAfter k a trace noLayers .top)
+
 abbrev pub runAfter : (k a : ℕ) (trace : List ℕ) → LayersRun
 runAfter k a trace = record {
   k = k;
@@ -69,6 +67,9 @@ runAfter k a trace = record {
   requests = length trace;
   evictions = joinCount k a trace;
   s = layersAfter k a trace noLayers .top;
+  appends = count isAppend (layerRules k a trace noLayers);
+  joins = count isJoin (layerRules k a trace noLayers);
+  lifts = count isLift (layerRules k a trace noLayers);
 }
 
 pub record Stands (k a : ℕ) (trace : List ℕ) (run : LayersRun) (pages numbers : List ℕ) : Type 0 where
@@ -82,9 +83,13 @@ pub record Stands (k a : ℕ) (trace : List ℕ) (run : LayersRun) (pages number
 after-well : (k a : ℕ) → 1 ≤ a → a ≤ k → (trace : List ℕ) (places : ℕ)
     → layersWellFormed (runAfter k a trace) (tableOf places (tabledAfter k a trace nothingYet .rows)) ≡ true
 after-well k a pos le trace places =
-    formed-table k a (length trace) (joinCount k a trace) (layersAfter k a trace noLayers .top) places (tabledAfter k a trace nothingYet .rows)
+    let rules = layerRules k a trace noLayers in
+    let sum : count isAppend rules + count isJoin rules + count isLift rules ≡ length trace = rules-add-up rules ∙ rules-length k a trace noLayers in
+    well-both (runAfter k a trace) (tableOf places (tabledAfter k a trace nothingYet .rows))
+    (record { sum = sum; bundles = refl })
+    (formed-table (runAfter k a trace) places (tabledAfter k a trace nothingYet .rows)
     (subst (λ s. FormedRows k a s (tabledAfter k a trace nothingYet .rows)) (tabled-top k a trace) (tabled-formed k a pos le trace))
-    (joins-most k a trace)
+    (omega arith))
 
 length-pages : (rows : List Row) → length (pagesOf rows) ≡ length rows
 length-pages [] = refl
@@ -163,10 +168,10 @@ reply-refusal run pages numbers p =
 
 -- An accepted request
 
-accepted-run : (run : LayersRun) (pages numbers : List ℕ) (p : ℕ) → requestRefusal run pages numbers p ≡ 0
-    → requestReply run pages numbers p .run ≡ runNext run p (rowsOf numbers pages)
+accepted-reply : (run : LayersRun) (pages numbers : List ℕ) (p : ℕ) → requestRefusal run pages numbers p ≡ 0
+    → requestReply run pages numbers p ≡ replyNext run p (rowsOf numbers pages)
 unfolding requestReply
-accepted-run run pages numbers p e = rw e
+accepted-reply run pages numbers p e = rw e
 
 accepted-pages : (run : LayersRun) (pages numbers : List ℕ) (p : ℕ) → requestRefusal run pages numbers p ≡ 0
     → pagesNext run pages numbers p ≡ pagesOf (tableNext run pages numbers p)
@@ -197,8 +202,10 @@ module _ (k a : ℕ) (trace : List ℕ) (run : LayersRun) (pages numbers : List 
   top-is : run .s ≡ tabledAfter k a trace nothingYet .s
   top-is = ap (λ r. r .s) (S .run-is) ∙ sym (tabled-top k a trace)
 
-  same-rule : (p : ℕ) → ruleNext run p (rowsOf numbers pages) ≡ ruleIn k (tabledAfter k a trace nothingYet .s) p (tabledAfter k a trace nothingYet .rows)
-  same-rule p = rw (used-is, top-is, ap (λ r. r .k) (S .run-is))
+  -- the rule is that of the layers of the trace
+  same-rule : (p : ℕ) → ruleNext run p (rowsOf numbers pages) ≡ ruleAfter k a trace p
+  same-rule p =
+      rw (used-is, top-is, ap (λ r. r .k) (S .run-is), tabled-map k a trace p, tabled-top k a trace)
 
   same-rows : (p : ℕ) → rowsNext run p (rowsOf numbers pages) ≡ tabledAfter k a (trace ++ (p ∷ [])) nothingYet .rows
   same-rows p =
@@ -209,25 +216,32 @@ module _ (k a : ℕ) (trace : List ℕ) (run : LayersRun) (pages numbers : List 
   room-kept p e =
       rw (← same-rows p) (not-full run pages numbers p (never-ill-formed k a trace run pages numbers S) e)
 
-  same-run : (p : ℕ) → runNext run p (rowsOf numbers pages) ≡ runAfter k a (trace ++ (p ∷ []))
+  same-run : (p : ℕ) → replyNext run p (rowsOf numbers pages) .run ≡ runAfter k a (trace ++ (p ∷ []))
   same-run p =
-      let T = tabledAfter k a trace nothingYet in
-      let next = tabled-snoc k a trace p nothingYet in
+      let rules = layerRules k a trace noLayers in
       let same-k : run .k ≡ k = ap (λ r. r .k) (S .run-is) in
       let same-a : run .a ≡ a = ap (λ r. r .a) (S .run-is) in
       let more : run .requests + 1 ≡ length (trace ++ (p ∷ [])) = omega (arith, ap (λ r. r .requests) (S .run-is), length-append trace (p ∷ [])) in
-      let joined : run .evictions + bit (isJoin (ruleNext run p (rowsOf numbers pages))) ≡ joinCount k a (trace ++ (p ∷ [])) =
-      omega (
-        arith,
-        ap (λ r. r .evictions) (S .run-is),
-        tabled-joins k a trace,
-        tabled-joins k a (trace ++ (p ∷ [])),
-        ap (λ U. U .joins) next,
-        ap (λ r. bit (isJoin r)) (same-rule p),
-      ) in
+      -- a count of the rules rises by what its test says of this one
+      let rises : (f : LayerRule → Bool) (n : ℕ) → n ≡ count f rules
+      → n + bit (f (ruleNext run p (rowsOf numbers pages))) ≡ count f (layerRules k a (trace ++ (p ∷ [])) noLayers) =
+      λ f n e. rw (e, same-rule p, rules-snoc k a trace p noLayers) (sym (count-snoc f rules (ruleAfter k a trace p))) in
       let above : topAfter (ruleNext run p (rowsOf numbers pages)) (run .k) (run .a) (run .s) ≡ layersAfter k a (trace ++ (p ∷ [])) noLayers .top =
-      rw (same-rule p, same-k, same-a, top-is) (sym (ap (λ U. U .s) next) ∙ tabled-top k a (trace ++ (p ∷ []))) in
-      λ i. record { k = same-k i; a = same-a i; requests = more i; evictions = joined i; s = above i }
+      rw (same-rule p, same-k, same-a, ap (λ r. r .s) (S .run-is)) (sym (ap (λ L. L .top) (layers-snoc k a trace p noLayers))) in
+      λ i. record {
+        k = same-k i;
+        a = same-a i;
+        requests = more i;
+        evictions = rises isJoin (run .evictions) (ap (λ r. r .evictions) (S .run-is)) i;
+        s = above i;
+        appends = rises isAppend (run .appends) (ap (λ r. r .appends) (S .run-is)) i;
+        joins = rises isJoin (run .joins) (ap (λ r. r .joins) (S .run-is)) i;
+        lifts = rises isLift (run .lifts) (ap (λ r. r .lifts) (S .run-is)) i;
+      }
+
+  -- an accepted request answers the rule that Figure 1 applies to the layers of the trace
+  pub answer-is : (p : ℕ) → requestRefusal run pages numbers p ≡ 0 → requestReply run pages numbers p .answer ≡ ruleNumber (ruleAfter k a trace p)
+  answer-is p e = ap (λ r. r .answer) (accepted-reply run pages numbers p e) ∙ ap ruleNumber (same-rule p)
 
 -- an accepted request leads to the state that stands for the trace with its page behind
 pub request-stands : (k a : ℕ) (trace : List ℕ) (run : LayersRun) (pages numbers : List ℕ) → Stands k a trace run pages numbers
@@ -235,7 +249,7 @@ pub request-stands : (k a : ℕ) (trace : List ℕ) (run : LayersRun) (pages num
     → Stands k a (trace ++ (p ∷ [])) (requestReply run pages numbers p .run) (pagesNext run pages numbers p) (numbersNext run pages numbers p)
 request-stands k a trace run pages numbers S p e =
     rw (
-      accepted-run run pages numbers p e,
+      accepted-reply run pages numbers p e,
       accepted-pages run pages numbers p e,
       accepted-numbers run pages numbers p e,
       same-run k a trace run pages numbers S p,

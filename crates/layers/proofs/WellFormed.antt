@@ -1,5 +1,5 @@
 -- Well formed as plain facts, and what the readings of a table tell of it.
-use Prim.Native.Nat.{ℕ, zero, suc, _-_, _≤_, _<_}
+use Prim.Native.Nat.{ℕ, zero, suc, _+_, _-_, _≤_, _<_}
 use native.Mathlib.Omega.{arith}
 use mathlib.Core.Bool.{Bool, true, false}
 use mathlib.Core.List.{List, [], _∷_, _++_}
@@ -7,21 +7,21 @@ use mathlib.Core.Path.{_≡_, refl, sym, ap, _∙_}
 use lib.Dec.{eqb, leb, ltb}
 use lib.ListN.{length, take, replicate}
 use lib.Seq.{take-at}
-use borrow.Author.Tests.{lt-ltb, le-ltb, le-leb, eqb-true}
+use borrow.Author.Tests.{lt-ltb, le-ltb, le-leb, eqb-true, eq-eqb, ne-eqb}
 use Rattle.lists.specs.Choice.{_or_, _and_}
 use Rattle.lists.specs.Pages.{count, distinct}
 use Rattle.lists.specs.Sorting.{Row}
-use Rattle.lists.proofs.Choice.{tests, cases, split, clash, and-l, and-r, or-l, or-r, or-split}
+use Rattle.lists.proofs.Choice.{tests, cases, split, clash, and-i, and-l, and-r, and-false-l, or-l, or-r, or-split}
 use Rattle.lists.proofs.Pages.{count-length}
 use Rattle.lists.proofs.Sorting.{row-eq, row-split}
 use Rattle.paging.specs.Rows.{rowsOf, pagesOf, unused, usedRows, tableOf}
 use Rattle.paging.specs.Table.{aboveZero, sizeOf}
 use Rattle.paging.proofs.Rows.{pages-back}
-use Rattle.layers.specs.Formed.{isUnused, follows, ordered, orderedBehind, present, noneAbove, singleAbove, layersWellFormed}
+use Rattle.layers.specs.Formed.{isUnused, follows, ordered, orderedBehind, present, noneAbove, singleAbove, tableFormed, countsFormed, layersWellFormed}
 use Rattle.layers.specs.declared.LayersRun.{LayersRun}
 use Rattle.layers.specs.inner.Sizes.{timesIn, Tallied, presentIn, singleIn, numbered, sizesFormed}
 
--- the tests of layersWellFormed, one by one
+-- the tests of tableFormed, one by one
 pub record Formed (run : LayersRun) (rows : List Row) : Type 0 where
   pub counted : leb (run .evictions) (run .requests) ≡ true
   pub once : distinct (pagesOf (usedRows rows)) ≡ true
@@ -32,8 +32,8 @@ pub record Formed (run : LayersRun) (rows : List Row) : Type 0 where
   pub single-high : singleAbove (run .k - run .a) (run .s) rows ≡ true
   pub single-few : (ltb (run .k - run .a) (run .s) or singleAbove 0 (run .s) rows) ≡ true
 
-pub facts : (run : LayersRun) (rows : List Row) → layersWellFormed run rows ≡ true → Formed run rows
-unfolding layersWellFormed
+pub facts : (run : LayersRun) (rows : List Row) → tableFormed run rows ≡ true → Formed run rows
+unfolding tableFormed
 facts run rows w =
     let w1 = and-r _ _ w in
     let w2 = and-r _ _ w1 in
@@ -53,8 +53,51 @@ facts run rows w =
     }
 
 -- a test that fails makes the state ill formed
-pub ill-formed : (run : LayersRun) (rows : List Row) (b : Bool) → b ≡ false → (Formed run rows → b ≡ true) → false ≡ layersWellFormed run rows
-ill-formed run rows b e f = cases (layersWellFormed run rows) (λ w. clash b (f (facts run rows w)) e) (λ w. sym w)
+pub ill-formed : (run : LayersRun) (rows : List Row) (b : Bool) → b ≡ false → (Formed run rows → b ≡ true) → false ≡ tableFormed run rows
+ill-formed run rows b e f = cases (tableFormed run rows) (λ w. clash b (f (facts run rows w)) e) (λ w. sym w)
+
+-- the tests of countsFormed, as equations
+pub record Counted (run : LayersRun) : Type 0 where
+  pub sum : run .appends + run .joins + run .lifts ≡ run .requests
+  pub bundles : run .joins ≡ run .evictions
+
+pub counts-facts : (run : LayersRun) → countsFormed run ≡ true → Counted run
+unfolding countsFormed
+counts-facts run w = record { sum = eqb-true _ _ (and-l _ _ w); bundles = eqb-true _ _ (and-r _ _ w) }
+
+pub counts-right : (run : LayersRun) → Counted run → countsFormed run ≡ true
+unfolding countsFormed
+counts-right run C = and-i _ _ (eq-eqb _ _ (C .sum)) (eq-eqb _ _ (C .bundles))
+
+-- the sum differs, or the joins do
+pub counts-apart : (run : LayersRun) → (run .appends + run .joins + run .lifts ≡ run .requests → ⊥) → false ≡ countsFormed run
+unfolding countsFormed
+counts-apart run n = sym (and-false-l _ _ (ne-eqb _ _ n))
+
+pub counts-joins : (run : LayersRun) → run .appends + run .joins + run .lifts ≡ run .requests → eqb (run .joins) (run .evictions) ≡ countsFormed run
+unfolding countsFormed _and_
+counts-joins run e = rw (eq-eqb (run .appends + run .joins + run .lifts) (run .requests) e)
+
+-- well formed is both
+pub well-table : (run : LayersRun) (rows : List Row) → layersWellFormed run rows ≡ true → tableFormed run rows ≡ true
+unfolding layersWellFormed
+well-table run rows w = and-r _ _ w
+
+pub well-counts : (run : LayersRun) (rows : List Row) → layersWellFormed run rows ≡ true → Counted run
+unfolding layersWellFormed
+well-counts run rows w = counts-facts run (and-l _ _ w)
+
+pub well-both : (run : LayersRun) (rows : List Row) → Counted run → tableFormed run rows ≡ true → layersWellFormed run rows ≡ true
+unfolding layersWellFormed
+well-both run rows C t = and-i _ _ (counts-right run C) t
+
+pub ill-by-counts : (run : LayersRun) (rows : List Row) → countsFormed run ≡ false → false ≡ layersWellFormed run rows
+unfolding layersWellFormed
+ill-by-counts run rows e = sym (and-false-l _ _ e)
+
+pub well-by-table : (run : LayersRun) (rows : List Row) → countsFormed run ≡ true → tableFormed run rows ≡ layersWellFormed run rows
+unfolding layersWellFormed _and_
+well-by-table run rows e = rw e
 
 -- Sizes
 
@@ -121,8 +164,8 @@ module _ (run : LayersRun) (ns sizes : List ℕ) (t : Tallied ns sizes) (limit s
 
 -- the whole, where all tests but those of the sizes hold
 pub formed-sized : (run : LayersRun) (rows : List Row) → run .evictions ≤ run .requests → distinct (pagesOf (usedRows rows)) ≡ true → ordered rows ≡ true
-    → noneAbove (run .s) rows ≡ true → run .s ≤ run .k → sizesFormed run rows ≡ layersWellFormed run rows
-unfolding sizesFormed layersWellFormed _and_
+    → noneAbove (run .s) rows ≡ true → run .s ≤ run .k → sizesFormed run rows ≡ tableFormed run rows
+unfolding sizesFormed tableFormed _and_
 formed-sized run rows e d o n s = rw (le-leb (run .evictions) (run .requests) e, d, o, n, le-leb (run .s) (run .k) s)
 
 -- none above s

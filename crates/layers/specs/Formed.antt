@@ -1,5 +1,5 @@
--- Document 01, "Well formed", for the layers: refusal 9 is given exactly where this does not hold.
-use Prim.Native.Nat.{ℕ, zero, suc, _-_}
+-- "Well formed" for the layers (document 01, and document 02, request 02): refusal 9 is given exactly where this does not hold.
+use Prim.Native.Nat.{ℕ, zero, suc, _+_, _-_}
 use mathlib.Core.Bool.{Bool, true}
 use mathlib.Core.List.{List, [], _∷_}
 use lib.Dec.{eqb, leb, ltb}
@@ -41,8 +41,8 @@ singleAbove limit zero rows = true
 singleAbove limit (suc i) rows = (leb (suc i) limit or leb (sizeOf (suc i) rows) 1) and singleAbove limit i rows
 
 -- what document 01 asks of the record and the table
-unfoldable pub layersWellFormed : LayersRun → List Row → Bool
-layersWellFormed run rows =
+unfoldable pub tableFormed : LayersRun → List Row → Bool
+tableFormed run rows =
     leb (run .evictions) (run .requests)
     and distinct (pagesOf (usedRows rows))
     and ordered rows
@@ -51,3 +51,11 @@ layersWellFormed run rows =
     and leb (run .s) (run .k)
     and singleAbove (run .k - run .a) (run .s) rows
     and (ltb (run .k - run .a) (run .s) or singleAbove 0 (run .s) rows)
+
+-- what document 02's request 02 asks of the record: its three counts add up to its requests, and the second equals its evictions
+unfoldable pub countsFormed : LayersRun → Bool
+countsFormed run = eqb (run .appends + run .joins + run .lifts) (run .requests) and eqb (run .joins) (run .evictions)
+
+-- well formed: both
+unfoldable pub layersWellFormed : LayersRun → List Row → Bool
+layersWellFormed run rows = countsFormed run and tableFormed run rows

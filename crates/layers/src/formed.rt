@@ -8,7 +8,7 @@ ghost use Rattle.lists.specs.Pages.{count};
 ghost use Rattle.paging.specs.Refusals.{largestK};
 ghost use Rattle.paging.specs.Rows.{rowAt, rowsOf};
 ghost use Rattle.paging.specs.Table.{aboveZero};
-ghost use Rattle.layers.specs.Formed.{isUnused, follows, ordered, layersWellFormed};
+ghost use Rattle.layers.specs.Formed.{isUnused, follows, ordered, tableFormed, countsFormed, layersWellFormed};
 ghost use Rattle.layers.specs.inner.Sizes.{Tallied, presentIn, singleIn, numbered, sizesFormed};
 use crate::LayersRun;
 
@@ -163,10 +163,10 @@ fn layers_sized(run: LayersRun, numbers: &[u32]) -> bool
     single_above(&sizes, 0, s)
 }
 
-// Whether the record and the table are well formed, for sizes that were judged.
-pub(crate) fn well_formed(run: LayersRun, pages: &[u32], numbers: &[u32]) -> bool
+// Whether the table is as the record says, for sizes that were judged.
+fn table_formed(run: LayersRun, pages: &[u32], numbers: &[u32]) -> bool
     requires { ⌜ (length (now pages) ≡ length (now numbers)) × (run .a ≤ run .k) × (run .k ≤ largestK) ⌝ }
-    ensures { λ r. ⌜ r ≡ layersWellFormed run (rowsOf (now (numbers .entry)) (now (pages .entry))) ⌝ }
+    ensures { λ r. ⌜ r ≡ tableFormed run (rowsOf (now (numbers .entry)) (now (pages .entry))) ⌝ }
 {
     if run.evictions > run.requests {
         return false;
@@ -185,4 +185,26 @@ pub(crate) fn well_formed(run: LayersRun, pages: &[u32], numbers: &[u32]) -> boo
         return false;
     }
     layers_sized(run, numbers)
+}
+
+// Whether the three counts add up to the requests, and the joins are the bundles. The counts are any numbers of 32 bits, so the sum has 64.
+fn counts_formed(run: LayersRun) -> bool
+    ensures { λ r. ⌜ r ≡ countsFormed run ⌝ }
+{
+    let sum = run.appends as u64 + run.joins as u64 + run.lifts as u64;
+    if sum == run.requests as u64 {
+        return run.joins == run.evictions;
+    }
+    false
+}
+
+// Whether the record and the table are well formed, for sizes that were judged. The counts are a matter of a few steps, so they come first.
+pub(crate) fn well_formed(run: LayersRun, pages: &[u32], numbers: &[u32]) -> bool
+    requires { ⌜ (length (now pages) ≡ length (now numbers)) × (run .a ≤ run .k) × (run .k ≤ largestK) ⌝ }
+    ensures { λ r. ⌜ r ≡ layersWellFormed run (rowsOf (now (numbers .entry)) (now (pages .entry))) ⌝ }
+{
+    if counts_formed(run) {
+        return table_formed(run, pages, numbers);
+    }
+    false
 }

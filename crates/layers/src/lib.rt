@@ -1,22 +1,30 @@
 // The layers of document 01 ("Layers", "Possible set"; source document 001, Figure 1), one request at a time on a record by value and a lent
 // table of two lists, with the questions on them, and over a whole trace. The definitions are in specs/.
+ghost use Prim.Native.Nat.{_≤_};
 ghost use mathlib.Core.Path.{_≡_};
-ghost use Rattle.layers.specs.Calls.{emptyRun, stateRefusal, requestReply, pagesNext, numbersNext, refused};
+ghost use Rattle.table.specs.Serving.{ruleOf};
+ghost use Rattle.layers.specs.Calls.{emptyRun, stateRefusal, runCounted, replyBy, requestReply, pagesNext, numbersNext, refused};
 ghost use Rattle.layers.specs.Questions.{RevealedTold, PossibleTold};
 ghost use Rattle.layers.specs.Traces.{refusedTotals, traceTotals, pagesOver, numbersOver};
+ghost use Rattle.layers.specs.inner.Counting.{CountersFit};
 use paging::Sizes;
+use table::RuleApplied;
 
 mod formed;
 mod questions;
 mod trace;
 
-// The layers' record: the sizes, the requests and bundles counted, and s, the number of the last layer.
+// The layers' record: the sizes, the requests and bundles counted, s, the number of the last layer, and how often each rule applied: 1a
+// appends, 1b joins, 1c lifts.
 pub struct LayersRun {
     pub k: u32,
     pub a: u32,
     pub requests: u32,
     pub evictions: u32,
     pub s: u32,
+    pub appends: u32,
+    pub joins: u32,
+    pub lifts: u32,
 }
 
 impl LayersRun {
@@ -36,14 +44,18 @@ impl LayersRun {
             requests: 0,
             evictions: 0,
             s: 0,
+            appends: 0,
+            joins: 0,
+            lifts: 0,
         }
     }
 }
 
-// A request's answer: the new record, or a refusal's number beside a record of zeros.
+// A request's answer: the new record and the rule that applied, 1 for 1a, 2 for 1b, 3 for 1c; or a refusal's number beside zeros.
 pub struct LayersReply {
     pub refusal: u32,
     pub run: LayersRun,
+    pub answer: u32,
 }
 
 // How many pages are revealed, or a refusal's number beside zero.
@@ -93,6 +105,48 @@ fn refused(number: u32) -> LayersReply
     LayersReply {
         refusal: number,
         run: LayersRun::empty(0, 0),
+        answer: 0,
+    }
+}
+
+// The record after one more request, with s after it and what it adds to the three counts. A join is a bundle.
+fn counted(run: LayersRun, s: u32, appends: u32, joins: u32, lifts: u32) -> LayersRun
+    requires { ⌜ CountersFit run × (appends ≤ 1) × (joins ≤ 1) × (lifts ≤ 1) ⌝ }
+    ensures { λ r. ⌜ r ≡ runCounted run s appends joins lifts ⌝ }
+{
+    LayersRun {
+        k: run.k,
+        a: run.a,
+        requests: run.requests + 1,
+        evictions: run.evictions + joins,
+        s,
+        appends: run.appends + appends,
+        joins: run.joins + joins,
+        lifts: run.lifts + lifts,
+    }
+}
+
+// What an accepted request answers.
+fn answered(rule: RuleApplied, s: u32, run: LayersRun) -> LayersReply
+    requires { ⌜ CountersFit run ⌝ }
+    ensures { λ r. ⌜ r ≡ replyBy (ruleOf rule) s run ⌝ }
+{
+    match rule {
+        RuleApplied::Append => LayersReply {
+            refusal: 0,
+            run: counted(run, s, 1, 0, 0),
+            answer: 1,
+        },
+        RuleApplied::Join => LayersReply {
+            refusal: 0,
+            run: counted(run, s, 0, 1, 0),
+            answer: 2,
+        },
+        RuleApplied::Lift => LayersReply {
+            refusal: 0,
+            run: counted(run, s, 0, 0, 1),
+            answer: 3,
+        },
     }
 }
 
@@ -114,16 +168,7 @@ pub fn request(run: LayersRun, pages: &mut [u32], numbers: &mut [u32], page: u32
         return refused(10);
     }
     let rule = stepped.rule;
-    LayersReply {
-        refusal: 0,
-        run: LayersRun {
-            k: run.k,
-            a: run.a,
-            requests: run.requests + 1,
-            evictions: run.evictions + table::bundles(rule),
-            s: stepped.s,
-        },
-    }
+    answered(rule, stepped.s, run)
 }
 
 // How many pages are revealed: they are the last so many used places.

@@ -23,10 +23,20 @@ pub data LayerRule : Type 0 where
   join : LayerRule
   lift : LayerRule
 
+abbrev pub isAppend : LayerRule → Bool
+isAppend append = true
+isAppend join = false
+isAppend lift = false
+
 abbrev pub isJoin : LayerRule → Bool
 isJoin append = false
 isJoin join = true
 isJoin lift = false
+
+abbrev pub isLift : LayerRule → Bool
+isLift append = false
+isLift join = false
+isLift lift = true
 
 -- the rule for a page with number i
 abbrev pub layerRule : (k i s : ℕ) → LayerRule

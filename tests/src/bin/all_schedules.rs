@@ -6,12 +6,13 @@
 //!   k/a, rounded up, times MIN's and times the layers'; on some traces LRU's is the lower, on some the other.
 //! - On those of up to 5 requests, each set is answered possible exactly if MIN holds it for some
 //!   continuation without repeats; on those of up to 3, for some continuation of up to 4 requests as well.
+//!   One more request lifts its page exactly if MIN may hold it, else joins exactly if the least cost rises.
 //! - On every file of up to two entries for traces of up to 3 requests, with k up to 2, the judge answers a
 //!   cost exactly if the entries are legal by document 01's paragraph, and that cost.
 
 use bench_tests::model::fifo::Fifo;
 use bench_tests::model::files::{schedule_file, trace_file, Entry};
-use bench_tests::model::layers::{self, Possible};
+use bench_tests::model::layers::{self, Layers, Possible, Rule};
 use bench_tests::model::lru::Lru;
 use bench_tests::model::queue::{self, Policy};
 use bench_tests::model::{judge, min};
@@ -96,7 +97,7 @@ fn check_counts(k: u32, a: u32, trace: &[u32]) -> Ordering {
     if best != least {
         differs("MIN's count is the least", &show(k, a, trace), &least, &best);
     }
-    let layered = layers::run(k, a, trace).expect("k and a are sound").bundles;
+    let layered = layers::run(k, a, trace).expect("k and a are sound").record.evictions;
     if layered != least {
         differs("the layers count MIN's bundles", &show(k, a, trace), &least, &layered);
     }
@@ -123,6 +124,7 @@ fn held_sets(k: u32, a: u32, trace: &[u32], continuations: &[Vec<u32>]) -> HashS
     continuations.iter().map(held).collect()
 }
 
+/// The possible sets after a trace, and the layer rule of one more request.
 fn check_sets(k: u32, a: u32, trace: &[u32], continuations: &[Vec<u32>]) {
     let held = held_sets(k, a, trace, continuations);
     let layers = layers::run(k, a, trace).expect("k and a are sound").layers;
@@ -133,6 +135,26 @@ fn check_sets(k: u32, a: u32, trace: &[u32], continuations: &[Vec<u32>]) {
             let mut input = show(k, a, trace);
             input.push(("set", format!("{:?}", set)));
             differs("possible sets", &input, &held.contains(&set), &answer);
+        }
+    }
+    check_rules(k, a, trace, &held, &layers);
+}
+
+/// Which layer rule one more request has, from the sets that MIN may hold before it and from the least cost.
+fn check_rules(k: u32, a: u32, trace: &[u32], held: &HashSet<BTreeSet<u32>>, layers: &Layers) {
+    let cost = least_cost(k, a, trace);
+    for page in 0..PAGES {
+        let longer = [trace, &[page]].concat();
+        let due = if held.iter().any(|set| set.contains(&page)) {
+            Rule::Lift
+        } else if least_cost(k, a, &longer) > cost {
+            Rule::Join
+        } else {
+            Rule::Append
+        };
+        let rule = layers::serve(k, a, &mut layers.clone(), page);
+        if rule != due {
+            differs("the rule of the last request", &show(k, a, &longer), &due, &rule);
         }
     }
 }

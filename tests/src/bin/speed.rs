@@ -29,7 +29,7 @@ fn low_half_zero(name: usize) -> u32 {
 
 /// One field of what a call stores.
 fn field(place: usize, call: impl FnOnce(&mut [u64])) -> u64 {
-    let mut out = [0; 8];
+    let mut out = [0; 10];
     call(&mut out);
     out[place]
 }
@@ -218,7 +218,16 @@ fn long_table(places: usize, name: fn(usize) -> u32) -> plain::layers::Table {
 
 /// One request for `page` on a long table; a copy of the table for each repeat is made beforehand.
 fn time_layers_request(table: &mut Table, what: String, long: &plain::layers::Table, page: u32) {
-    let record = layers::Record { k: K, a: 128, requests: 1_000_000, evictions: 1_000, s: long.s };
+    let record = layers::Record {
+        k: K,
+        a: 128,
+        requests: 1_000_000,
+        evictions: 1_000,
+        s: long.s,
+        appends: 400_000,
+        joins: 1_000,
+        lifts: 599_000,
+    };
     let places = long.pages.len() + 1;
     let (mut pages, mut numbers) = (long.pages.clone(), long.numbers.clone());
     pages.resize(places, 0);

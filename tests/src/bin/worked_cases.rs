@@ -1,5 +1,5 @@
-//! Document 01's worked cases and those of oldest load first, by hand, against the second implementation: a
-//! reader who doubts the model starts here. Nothing of the proved crates is run.
+//! Document 01's worked cases and those of document 02's requests, by hand, against the second
+//! implementation: a reader who doubts the model starts here. Nothing of the proved crates is run.
 
 use bench_tests::model::fifo::Fifo;
 use bench_tests::model::layers::{self, Layers, Possible};
@@ -32,7 +32,7 @@ fn bundles(k: u32, a: u32, trace: &[u32]) -> [u32; 4] {
     let best = min::run(k, a, trace).map(|run| run.bundles.len() as u32);
     let recent = queue::run::<Lru>(k, a, trace).map(|run| run.bundles.len() as u32);
     let oldest = queue::run::<Fifo>(k, a, trace).map(|run| run.bundles.len() as u32);
-    let layered = layers::run(k, a, trace).map(|run| run.bundles);
+    let layered = layers::run(k, a, trace).map(|run| run.record.evictions);
     [best, recent, oldest, layered].map(|count| count.expect("k and a are sound"))
 }
 
@@ -56,14 +56,22 @@ fn one_request<P: Policy>(count: u32, cache: [u32; 4], page: u32) -> (u32, u32, 
     (served.answer, served.count, cache, evicted)
 }
 
-/// The answer of the last of a list of layer requests on a table of some places.
-fn last_request(k: u32, a: u32, places: usize, trace: &[u32]) -> Result<u32, u32> {
-    let mut record = layers::Record { k, a, requests: 0, evictions: 0, s: 0 };
+/// The answers to a list of layer requests on a table of some places, and the record after the last.
+fn layer_requests(k: u32, a: u32, places: usize, trace: &[u32]) -> Result<(Vec<u32>, layers::Record), u32> {
+    let mut record = layers::Record::empty(k, a);
+    let mut answers = Vec::new();
     let (mut pages, mut numbers) = (vec![0; places], vec![0; places]);
     for &page in trace {
-        record = layers::request(&record, &mut pages, &mut numbers, page)?;
+        let (next, rule) = layers::request(&record, &mut pages, &mut numbers, page)?;
+        record = next;
+        answers.push(rule as u32);
     }
-    Ok(record.s)
+    Ok((answers, record))
+}
+
+/// s after the last of a list of layer requests on a table of some places.
+fn last_s(k: u32, a: u32, places: usize, trace: &[u32]) -> Result<u32, u32> {
+    layer_requests(k, a, places, trace).map(|(_, record)| record.s)
 }
 
 fn marked(cases: &mut Cases) {
@@ -80,21 +88,19 @@ fn marked(cases: &mut Cases) {
     let layered = layers::run(3, 2, &SHIFT).map(|run| run.layers);
     cases.same("4", layered, Ok(sets(&[&[2, 4, 5], &[6], &[1]])));
     cases.same("7", bundles(2, 2, &[1, 2, 3]), [1, 1, 1, 1]);
-    cases.same("7, s", last_request(2, 2, 3, &[1, 2, 3]), Ok(1));
+    cases.same("7, s", last_s(2, 2, 3, &[1, 2, 3]), Ok(1));
     cases.same("8", bundles(1, 1, &[1, 2, 1]), [2, 2, 2, 2]);
-    cases.same("9", last_request(2, 1, 2, &[1, 2, 3]), Err(10));
-    cases.same("9, a 2", last_request(2, 2, 2, &[1, 2, 3]), Ok(1));
-    cases.same("10", last_request(2, 1, 3, &[1, 2, 3, 1, 4]), Ok(2));
+    cases.same("9", last_s(2, 1, 2, &[1, 2, 3]), Err(10));
+    cases.same("9, a 2", last_s(2, 2, 2, &[1, 2, 3]), Ok(1));
+    cases.same("10", last_s(2, 1, 3, &[1, 2, 3, 1, 4]), Ok(2));
 }
 
 /// Cases 5 and 6: sets after seven requests.
 fn questions(cases: &mut Cases) {
     let run = layers::run(3, 2, &SHIFT[..7]).expect("k and a are sound");
-    let s = run.layers.len() as u32;
-    let record = layers::Record { k: 3, a: 2, requests: 7, evictions: run.bundles, s };
     let (mut pages, mut numbers) = ([0; 9], [0; 9]);
     layers::write_table(&run.layers, &mut pages, &mut numbers);
-    let ask = |set: &[u32]| layers::possible(&record, &pages, &numbers, set);
+    let ask = |set: &[u32]| layers::possible(&run.record, &pages, &numbers, set);
     cases.same("5", ask(&[5, 6]), Ok(Possible::Yes));
     cases.same("6, first", ask(&[2, 4]), Ok(Possible::BreaksAt(1)));
     cases.same("6, second", ask(&[1, 6]), Ok(Possible::BreaksAt(0)));
@@ -156,6 +162,29 @@ fn oldest_load(cases: &mut Cases) {
     cases.same("a hit, oldest load", one_request::<Fifo>(3, full, 5), (0, 3, full, [7, 7, 7]));
 }
 
+/// Which layer rule applied, and the counts of the three.
+fn layer_rules(cases: &mut Cases) {
+    let served = |k, a, trace: &[u32]| {
+        let (answers, record) = layer_requests(k, a, 9, trace).expect("the requests are sound");
+        (answers, [record.appends, record.joins, record.lifts])
+    };
+    cases.same("the shift's rules", served(3, 2, &SHIFT), (vec![1, 1, 1, 2, 3, 1, 2, 1], [5, 2, 1]));
+    cases.same("the rules of seven", served(3, 2, &SHIFT[..7]), (vec![1, 1, 1, 2, 3, 1, 2], [4, 2, 1]));
+    cases.same("7, the rules", served(2, 2, &[1, 2, 3]), (vec![1, 1, 2], [2, 1, 0]));
+    cases.same("1 2 1 1, the rules", served(1, 1, &[1, 2, 1, 1]), (vec![1, 2, 2, 3], [1, 2, 1]));
+    let revealed = |requests, evictions, [appends, joins, lifts]: [u32; 3]| {
+        let record = layers::Record { k: 3, a: 2, requests, evictions, s: 1, appends, joins, lifts };
+        layers::revealed(&record, &[5], &[1])
+    };
+    cases.same("counts that add up", revealed(7, 2, [4, 2, 1]), Ok(1));
+    cases.same("no counts", revealed(7, 2, [0, 0, 0]), Err(9));
+    cases.same("one too few", revealed(7, 2, [4, 2, 0]), Err(9));
+    cases.same("one too many", revealed(7, 2, [5, 2, 1]), Err(9));
+    cases.same("joins apart from evictions", revealed(7, 2, [4, 1, 2]), Err(9));
+    cases.same("the largest sum", revealed(u32::MAX, 2, [u32::MAX - 3, 2, 1]), Ok(1));
+    cases.same("a sum of 2^32", revealed(0, 0, [u32::MAX, 0, 1]), Err(9));
+}
+
 fn main() {
     let mut cases = Cases(0);
     marked(&mut cases);
@@ -164,5 +193,6 @@ fn main() {
     places::<Lru>(&mut cases, "LRU");
     places::<Fifo>(&mut cases, "oldest load");
     oldest_load(&mut cases);
+    layer_rules(&mut cases);
     println!("worked cases: {} agree", cases.0);
 }

@@ -2,7 +2,7 @@
 
 use super::{Answer, Call, Lent};
 use crate::exported::exports;
-use crate::model::layers::{self, Possible, Record};
+use crate::model::layers::{self, Possible, Record, Rule};
 use crate::model::Refusal;
 
 /// A record and its table.
@@ -26,17 +26,17 @@ impl Call for Request {
 
     fn expected(&mut self) -> Answer {
         let State { record, pages, numbers } = &mut self.state;
-        let held = pages.list().iter().zip(numbers.list()).any(|(&page, &n)| n > 0 && page == self.page);
         match layers::request(record, pages.list_mut(), numbers.list_mut(), self.page) {
-            Err(refusal) => Answer::refused(refusal, 6),
-            Ok(next) => {
-                let rule = match next.evictions > record.evictions {
-                    true => "1b",
-                    false if held => "1c",
-                    false => "1a",
+            Err(refusal) => Answer::refused(refusal, 10),
+            Ok((next, rule)) => {
+                let kind = match rule {
+                    Rule::Append => "1a",
+                    Rule::Join => "1b",
+                    Rule::Lift => "1c",
                 };
-                let Record { k, a, requests, evictions, s } = next;
-                Answer::told(rule, &[0, k, a, requests, evictions, s].map(u64::from))
+                let Record { k, a, requests, evictions, s, appends, joins, lifts } = next;
+                let fields = [0, k, a, requests, evictions, s, appends, joins, lifts, rule as u32];
+                Answer::told(kind, &fields.map(u64::from))
             }
         }
     }
@@ -50,9 +50,10 @@ impl Call for Request {
 impl Request {
     /// Takes the record of an accepted request over, for the next one.
     pub fn go_on(&mut self, answer: &Answer) {
-        if let [0, k, a, requests, evictions, s] = answer.fields[..] {
-            let [k, a, requests, evictions, s] = [k, a, requests, evictions, s].map(|n| n as u32);
-            self.state.record = Record { k, a, requests, evictions, s };
+        if let [0, k, a, requests, evictions, s, appends, joins, lifts, _] = answer.fields[..] {
+            let [k, a, requests, evictions] = [k, a, requests, evictions].map(|n| n as u32);
+            let [s, appends, joins, lifts] = [s, appends, joins, lifts].map(|n| n as u32);
+            self.state.record = Record { k, a, requests, evictions, s, appends, joins, lifts };
         }
     }
 }
@@ -140,8 +141,9 @@ impl Call for OverTrace {
         match layers::over_trace(self.k, self.a, &self.trace, pages, numbers) {
             Err(refusal) => Answer::refused(refusal, 4),
             Ok(run) => {
-                let (s, revealed) = (run.layers.len() as u32, layers::revealed_of(&run.layers));
-                Answer::told("totals", &[0, run.bundles, s, revealed].map(u64::from))
+                let Record { evictions, s, .. } = run.record;
+                let revealed = layers::revealed_of(&run.layers);
+                Answer::told("totals", &[0, evictions, s, revealed].map(u64::from))
             }
         }
     }

@@ -5,7 +5,7 @@ use crate::calls::layers::{PossibleSet, Request, Revealed, State};
 use crate::calls::{Lent, Reached};
 use crate::model::layers::Record;
 use crate::rng::Rng;
-use crate::states::layers::{all_small, drawn, wide, Draft, FAULTS};
+use crate::states::layers::{all_counters, all_small, drawn, wide, Draft, FAULTS};
 use crate::states::{border_sizes, end_page};
 use crate::traces::{any, sizes};
 
@@ -51,8 +51,7 @@ fn walks(reached: &mut Reached, rng: &mut Rng) {
         let (k, a) = sizes(rng);
         let places = rng.pick(&[0, 1, k as usize, k as usize + 5, 200, 210]);
         let unused = Lent::new(&vec![0; places]);
-        let record = Record { k, a, requests: 0, evictions: 0, s: 0 };
-        let state = State { record, pages: unused.clone(), numbers: unused };
+        let state = State { record: Record::empty(k, a), pages: unused.clone(), numbers: unused };
         let mut call = Request { state, page: 0 };
         for page in any(k, a, 150, rng) {
             call.page = page;
@@ -86,14 +85,32 @@ fn faults(reached: &mut Reached, rng: &mut Rng) {
     all_met("layers_request", &FAULTS, &alone);
 }
 
+const FULL: u32 = u32::MAX;
+
+/// Requests, evictions, appends, joins and lifts at the ends of their ranges: sound ones first, then some
+/// whose counts add up to 2^32 or more, in all but the last to requests modulo 2^32.
+const COUNTERS: [[u32; 5]; 11] = [
+    [0, 0, 0, 0, 0],
+    [FULL - 1, FULL - 1, 0, FULL - 1, 0],
+    [FULL - 1, 0, FULL - 1, 0, 0],
+    [FULL - 1, 0, 0, 0, FULL - 1],
+    [FULL, 4, FULL - 9, 4, 5],
+    [FULL, FULL, 0, FULL, 0],
+    [3, 4, FULL, 4, 0],
+    [0, 0, FULL, 0, 1],
+    [0, 0, FULL, 1, 0],
+    [FULL - 1, 1, FULL, 1, FULL - 1],
+    [FULL, FULL, FULL, FULL, FULL],
+];
+
 /// k and a, counters, s and pages at the ends of their ranges, on tables without a used place and with the
 /// layers of k different pages.
 fn borders(reached: &mut Reached, rng: &mut Rng) {
     for (k, a) in border_sizes() {
-        for (requests, evictions) in [(0, 0), (u32::MAX - 1, u32::MAX - 1), (u32::MAX, 4), (3, 4)] {
+        for [requests, evictions, appends, joins, lifts] in COUNTERS {
             for s in [0, 1, k.wrapping_sub(1), k, k.wrapping_add(1), u32::MAX] {
                 for spare in [0, 1, 2] {
-                    let record = Record { k, a, requests, evictions, s };
+                    let record = Record { k, a, requests, evictions, s, appends, joins, lifts };
                     let mut pages: Vec<u32> = (0..s.min(258) as usize).map(end_page).collect();
                     pages.reverse();
                     let rows = (1..).zip(pages).collect();
@@ -151,6 +168,7 @@ pub fn all(reached: &mut Reached, rng: &mut Rng) {
         ask(reached, &state, (0..3).filter(|page| turn >> page & 1 == 1).collect());
         reached.compare(&Request { state, page: turn % 4 });
     });
+    all_counters(|draft| every_call(reached, draft, rng));
     for _ in 0..60_000 {
         every_call(reached, &drawn(rng), rng);
     }

@@ -3,7 +3,18 @@
 use super::{check_sizes, check_trace, Refusal};
 use std::collections::BTreeSet;
 
-/// The layers' record.
+/// The rule that a request was served by, with the number that is answered.
+#[derive(Clone, Copy, Debug, PartialEq, Eq)]
+pub enum Rule {
+    /// Rule 1a.
+    Append = 1,
+    /// Rule 1b.
+    Join = 2,
+    /// Rule 1c.
+    Lift = 3,
+}
+
+/// The layers' run record.
 #[derive(Clone, Debug, PartialEq, Eq)]
 pub struct Record {
     pub k: u32,
@@ -11,6 +22,25 @@ pub struct Record {
     pub requests: u32,
     pub evictions: u32,
     pub s: u32,
+    pub appends: u32,
+    pub joins: u32,
+    pub lifts: u32,
+}
+
+impl Record {
+    /// The record before the first request.
+    pub fn empty(k: u32, a: u32) -> Self {
+        Record { k, a, requests: 0, evictions: 0, s: 0, appends: 0, joins: 0, lifts: 0 }
+    }
+
+    /// The count of a rule.
+    pub fn count_of(&mut self, rule: Rule) -> &mut u32 {
+        match rule {
+            Rule::Append => &mut self.appends,
+            Rule::Join => &mut self.joins,
+            Rule::Lift => &mut self.lifts,
+        }
+    }
 }
 
 /// L1 to Ls, the first at place 0.
@@ -33,20 +63,19 @@ fn join(mut one: BTreeSet<u32>, mut other: BTreeSet<u32>) -> BTreeSet<u32> {
     one
 }
 
-/// Rules 1a, 1b and 1c; true if a bundle is counted.
-pub fn serve(k: u32, a: u32, layers: &mut Layers, page: u32) -> bool {
+/// Rules 1a, 1b and 1c; tells which one applied.
+pub fn serve(k: u32, a: u32, layers: &mut Layers, page: u32) -> Rule {
     let (k, a) = (k as usize, a as usize);
     let full = layers.len() == k;
-    let mut counted = false;
-    match layers.iter().position(|layer| layer.contains(&page)) {
+    let rule = match layers.iter().position(|layer| layer.contains(&page)) {
         None if full => {
             let joined = layers.drain(k - a..).fold(BTreeSet::new(), join);
             if let Some(below) = layers.pop() {
                 layers.push(join(below, joined));
             }
-            counted = true;
+            Rule::Join
         }
-        None => {}
+        None => Rule::Append,
         Some(i) => {
             let mut rest = layers.remove(i);
             rest.remove(&page);
@@ -54,10 +83,21 @@ pub fn serve(k: u32, a: u32, layers: &mut Layers, page: u32) -> bool {
                 let below = std::mem::take(&mut layers[i - 1]);
                 layers[i - 1] = join(below, rest);
             }
+            Rule::Lift
         }
-    }
+    };
     layers.push(BTreeSet::from([page]));
-    counted
+    rule
+}
+
+/// Serves a page and counts the request; 1b counts a bundle too.
+fn serve_counted(record: &mut Record, layers: &mut Layers, page: u32) -> Rule {
+    let rule = serve(record.k, record.a, layers, page);
+    record.requests += 1;
+    record.evictions += u32::from(rule == Rule::Join);
+    record.s = layers.len() as u32;
+    *record.count_of(rule) += 1;
+    rule
 }
 
 /// The layers of a table; 9 if it is not well formed.
@@ -92,13 +132,19 @@ fn sizes_fit(record: &Record, layers: &Layers) -> bool {
     })
 }
 
+/// The three counts add up to the requests, not only modulo 2^32, and the second equals the evictions.
+fn counts_fit(record: &Record) -> bool {
+    let sum = u64::from(record.appends) + u64::from(record.joins) + u64::from(record.lifts);
+    sum == u64::from(record.requests) && record.joins == record.evictions
+}
+
 /// The refusals that requests and questions share, in order: 1, 2, 8, 9.
 fn check(record: &Record, pages: &[u32], numbers: &[u32]) -> Result<Layers, Refusal> {
     check_sizes(record.k, record.a)?;
     if pages.len() != numbers.len() {
         return Err(8);
     }
-    if record.evictions > record.requests {
+    if record.evictions > record.requests || !counts_fit(record) {
         return Err(9);
     }
     read_table(record, pages, numbers)
@@ -115,30 +161,25 @@ pub fn write_table(layers: &Layers, pages: &mut [u32], numbers: &mut [u32]) {
     }
 }
 
-/// One request on a lent table. After the shared refusals come 12 and 10.
+/// One request on a lent table: the record after it, and the rule. After the shared refusals come 12 and 10.
 pub fn request(
     record: &Record,
     pages: &mut [u32],
     numbers: &mut [u32],
     page: u32,
-) -> Result<Record, Refusal> {
+) -> Result<(Record, Rule), Refusal> {
     let mut layers = check(record, pages, numbers)?;
     if record.requests == u32::MAX {
         return Err(12);
     }
-    let counted = serve(record.k, record.a, &mut layers, page);
+    let mut next = record.clone();
+    let rule = serve_counted(&mut next, &mut layers, page);
     let held: usize = layers.iter().map(BTreeSet::len).sum();
     if held > pages.len() {
         return Err(10);
     }
     write_table(&layers, pages, numbers);
-    Ok(Record {
-        k: record.k,
-        a: record.a,
-        requests: record.requests + 1,
-        evictions: record.evictions + u32::from(counted),
-        s: layers.len() as u32,
-    })
+    Ok((next, rule))
 }
 
 /// The longest run of single-page layers at the top end.
@@ -189,21 +230,21 @@ pub fn may_name(record: &Record, pages: &[u32], numbers: &[u32], set: &[u32], i:
     usize::try_from(i).map_or(false, |i| layers.map_or(false, |layers| breaks_at(&layers, &set, i)))
 }
 
-/// What a whole trace does, from no layers and with room for every page.
+/// What a whole trace does, from the empty record and no layers; its bundles are the record's evictions.
 #[derive(Clone, Debug, PartialEq, Eq)]
 pub struct Run {
-    pub bundles: u32,
+    pub record: Record,
     pub layers: Layers,
 }
 
+/// A whole trace with room for every page.
 pub fn run(k: u32, a: u32, trace: &[u32]) -> Result<Run, Refusal> {
     check_sizes(k, a)?;
-    let mut layers = Vec::new();
-    let mut bundles = 0;
+    let mut run = Run { record: Record::empty(k, a), layers: Vec::new() };
     for &page in trace {
-        bundles += u32::from(serve(k, a, &mut layers, page));
+        serve_counted(&mut run.record, &mut run.layers, page);
     }
-    Ok(Run { bundles, layers })
+    Ok(run)
 }
 
 /// A whole trace on a lent table that is all unused: 1, 2, 3, 8 for unequal lists, 9 where a place is
@@ -223,9 +264,9 @@ pub fn over_trace(
     if pages.iter().chain(numbers.iter()).any(|&held| held != 0) {
         return Err(9);
     }
-    let mut run = Run { bundles: 0, layers: Vec::new() };
+    let mut run = Run { record: Record::empty(k, a), layers: Vec::new() };
     for &page in trace {
-        run.bundles += u32::from(serve(k, a, &mut run.layers, page));
+        serve_counted(&mut run.record, &mut run.layers, page);
         if run.layers.iter().map(BTreeSet::len).sum::<usize>() > pages.len() {
             return Err(10);
         }

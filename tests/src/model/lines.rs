@@ -22,7 +22,7 @@ fn lines_of(trace: &Trace) -> Result<String, Refusal> {
         recent.loads,
         oldest.bundles.len(),
         oldest.loads,
-        layered.bundles,
+        layered.record.evictions,
         layered.layers.len(),
         layers::revealed_of(&layered.layers),
     ))

@@ -3,7 +3,7 @@
 use super::{all_lists, end_page, Fault};
 use crate::calls::layers::State;
 use crate::calls::Lent;
-use crate::model::layers::{self, Layers, Record};
+use crate::model::layers::{self, Layers, Record, Rule};
 use crate::rng::Rng;
 use crate::traces::{any, any_sizes, scattered};
 use std::collections::BTreeSet;
@@ -34,10 +34,8 @@ impl Draft {
     /// The state after a trace, by the second implementation.
     pub fn after(k: u32, a: u32, trace: &[u32], spare: usize) -> Self {
         let run = layers::run(k, a, trace).expect("k and a are sound");
-        let s = run.layers.len() as u32;
-        let record = Record { k, a, requests: trace.len() as u32, evictions: run.bundles, s };
         let rows = (1..).zip(&run.layers).flat_map(|(n, layer)| layer.iter().map(move |&page| (n, page)));
-        Draft { record, rows: rows.collect(), spare, short: [0, 0], page: 0 }
+        Draft { record: run.record, rows: rows.collect(), spare, short: [0, 0], page: 0 }
     }
 
     /// A state that some requests lead to, with pages at the ends of their range.
@@ -73,7 +71,7 @@ impl Draft {
 }
 
 /// Every condition of the state and of a request, broken alone.
-pub const FAULTS: [Fault<Draft>; 21] = [
+pub const FAULTS: [Fault<Draft>; 35] = [
     Fault { name: "k is 0", refusal: 1, apply: |draft| set(&mut draft.record.k, 0) },
     Fault { name: "k is 257", refusal: 1, apply: |draft| set(&mut draft.record.k, 257) },
     Fault { name: "a is 0", refusal: 2, apply: |draft| set(&mut draft.record.a, 0) },
@@ -85,6 +83,38 @@ pub const FAULTS: [Fault<Draft>; 21] = [
     Fault { name: "a page place less", refusal: 8, apply: |draft| shorten(draft, 0) },
     Fault { name: "a number place less", refusal: 8, apply: |draft| shorten(draft, 1) },
     Fault { name: "evictions above requests", refusal: 9, apply: too_many_evictions },
+    Fault { name: "no counts", refusal: 9, apply: no_counts },
+    Fault { name: "an append too many", refusal: 9, apply: |draft| raise(&mut draft.record.appends) },
+    Fault { name: "an append too few", refusal: 9, apply: |draft| lower(&mut draft.record.appends) },
+    Fault { name: "a lift too many", refusal: 9, apply: |draft| raise(&mut draft.record.lifts) },
+    Fault { name: "a lift too few", refusal: 9, apply: |draft| lower(&mut draft.record.lifts) },
+    Fault { name: "a join and an eviction too many", refusal: 9, apply: join_too_many },
+    Fault {
+        name: "a join and an eviction too few",
+        refusal: 9,
+        apply: |draft| lower(&mut draft.record.joins) && lower(&mut draft.record.evictions),
+    },
+    Fault {
+        name: "a join counted as a lift",
+        refusal: 9,
+        apply: |draft| lower(&mut draft.record.joins) && raise(&mut draft.record.lifts),
+    },
+    Fault {
+        name: "an append counted as a join",
+        refusal: 9,
+        apply: |draft| lower(&mut draft.record.appends) && raise(&mut draft.record.joins),
+    },
+    Fault {
+        name: "appends is 2^31, the sum 2^32 too large",
+        refusal: 9,
+        apply: |draft| split(&mut draft.record, 1 << 31),
+    },
+    Fault {
+        name: "appends is the largest number, the sum 2^32 too large",
+        refusal: 9,
+        apply: |draft| split(&mut draft.record, u32::MAX),
+    },
+    Fault { name: "lifts is the largest number, the sum 2^32 too large", refusal: 9, apply: most_lifts },
     Fault { name: "a page in two layers", refusal: 9, apply: page_in_two_layers },
     Fault { name: "a page twice in a layer", refusal: 9, apply: page_twice_in_layer },
     Fault { name: "layers not in order", refusal: 9, apply: |draft| swap(draft, |x, y| x.0 != y.0) },
@@ -98,9 +128,19 @@ pub const FAULTS: [Fault<Draft>; 21] = [
     Fault { name: "two pages in a layer above k - a", refusal: 9, apply: top_not_single },
     Fault { name: "two pages in a layer, s at most k - a", refusal: 9, apply: low_not_single },
     Fault {
-        name: "the request counter is full",
+        name: "the request counter is full, with appends",
         refusal: 12,
-        apply: |draft| set(&mut draft.record.requests, u32::MAX),
+        apply: |draft| count_up(&mut draft.record, u32::MAX, Rule::Append),
+    },
+    Fault {
+        name: "the request counter is full, with joins",
+        refusal: 12,
+        apply: |draft| count_up(&mut draft.record, u32::MAX, Rule::Join),
+    },
+    Fault {
+        name: "the request counter is full, with lifts",
+        refusal: 12,
+        apply: |draft| count_up(&mut draft.record, u32::MAX, Rule::Lift),
     },
     Fault { name: "no place for the page", refusal: 10, apply: no_place },
 ];
@@ -110,14 +150,69 @@ fn set(field: &mut u32, value: u32) -> bool {
     true
 }
 
+/// One more; false at the end of the range.
+fn raise(field: &mut u32) -> bool {
+    *field = field.wrapping_add(1);
+    *field > 0
+}
+
+/// One less; false at 0.
+fn lower(field: &mut u32) -> bool {
+    *field = field.wrapping_sub(1);
+    *field < u32::MAX
+}
+
+/// Raises requests to a number; those that are added are all counted for one rule.
+fn count_up(record: &mut Record, requests: u32, rule: Rule) -> bool {
+    let more = requests.wrapping_sub(record.requests);
+    let count = record.count_of(rule);
+    *count = count.wrapping_add(more);
+    if rule == Rule::Join {
+        record.evictions = record.evictions.wrapping_add(more);
+    }
+    set(&mut record.requests, requests)
+}
+
+/// The requests that are no joins, modulo 2^32.
+fn no_joins(record: &Record) -> u32 {
+    record.requests.wrapping_sub(record.joins)
+}
+
+/// Sets appends, and lifts so that the counts add up modulo 2^32; true if as numbers they do not.
+fn split(record: &mut Record, appends: u32) -> bool {
+    let others = no_joins(record);
+    record.appends = appends;
+    record.lifts = others.wrapping_sub(appends);
+    appends > others
+}
+
 fn shorten(draft: &mut Draft, list: usize) -> bool {
     draft.short[list] += 1;
     draft.rows.len() + draft.spare > 0
 }
 
+/// Joins are as many as evictions, and the counts add up modulo 2^32.
 fn too_many_evictions(draft: &mut Draft) -> bool {
     draft.record.evictions = draft.record.requests.wrapping_add(1);
+    draft.record.joins = draft.record.evictions;
+    split(&mut draft.record, 0);
     draft.record.requests < u32::MAX
+}
+
+/// A record as it was before it had counts.
+fn no_counts(draft: &mut Draft) -> bool {
+    (draft.record.appends, draft.record.joins, draft.record.lifts) = (0, 0, 0);
+    draft.record.requests > 0
+}
+
+fn join_too_many(draft: &mut Draft) -> bool {
+    let record = &mut draft.record;
+    raise(&mut record.joins) && raise(&mut record.evictions) && record.evictions <= record.requests
+}
+
+fn most_lifts(draft: &mut Draft) -> bool {
+    let appends = no_joins(&draft.record).wrapping_add(1);
+    split(&mut draft.record, appends)
 }
 
 fn page_in_two_layers(draft: &mut Draft) -> bool {
@@ -207,6 +302,8 @@ fn no_place(draft: &mut Draft) -> bool {
     draft.record.s < draft.record.k || draft.record.a < draft.record.k
 }
 
+const RULES: [Rule; 3] = [Rule::Append, Rule::Join, Rule::Lift];
+
 /// A sound state after a drawn trace, on a table with some places to spare or none.
 fn drawn_sound(k: u32, a: u32, rng: &mut Rng) -> Draft {
     let n = rng.between(0, 3 * k.min(12) as usize);
@@ -215,12 +312,36 @@ fn drawn_sound(k: u32, a: u32, rng: &mut Rng) -> Draft {
     let spare = if rng.once_in(3) { 0 } else { rng.below(5) };
     let mut draft = Draft::after(k, a, &trace, spare);
     draft.page = rng.below(18) as u32;
-    draft.record.requests = match rng.below(12) {
-        0 => u32::MAX,
-        1 => u32::MAX - 1,
-        _ => draft.record.requests,
-    };
+    if rng.once_in(6) {
+        let requests = rng.pick(&[u32::MAX - 1, u32::MAX]);
+        count_up(&mut draft.record, requests, rng.pick(&RULES));
+    }
     draft
+}
+
+/// Splits the requests that are no joins another way, at times with a sum that is right modulo 2^32 only.
+fn split_anew(record: &mut Record, rng: &mut Rng) {
+    let others = no_joins(record);
+    let appends = rng.pick(&[0, others / 2, others, others.wrapping_add(1), 1 << 31, u32::MAX]);
+    split(record, appends);
+}
+
+/// One change to the counters of a record, which may leave them sound.
+fn disturb_counters(record: &mut Record, rng: &mut Rng) {
+    let (requests, noise) = (record.requests, rng.word());
+    match rng.below(4) {
+        0 => record.evictions = requests.wrapping_add(rng.below(2) as u32),
+        1 => {
+            let count = record.count_of(rng.pick(&RULES));
+            *count = rng.pick(&[0, count.wrapping_add(1), count.wrapping_sub(1), noise]);
+        }
+        2 => {
+            record.joins = rng.pick(&[0, requests, requests.wrapping_add(1), noise]);
+            record.evictions = record.joins;
+            split_anew(record, rng);
+        }
+        _ => split_anew(record, rng),
+    }
 }
 
 /// One change to a state, which may leave it sound.
@@ -228,16 +349,16 @@ fn disturb(draft: &mut Draft, rng: &mut Rng) {
     let places = draft.rows.len();
     let noise = rng.word();
     let value = rng.pick(&[0, 1, 2, draft.record.s, draft.record.s.wrapping_add(1), noise]);
-    match rng.below(9) {
+    match rng.below(12) {
         0 => draft.record.s = value,
-        1 => draft.record.evictions = draft.record.requests.wrapping_add(rng.below(2) as u32),
-        2 => (draft.record.k, draft.record.a) = any_sizes(rng),
-        3 => draft.short[0] += 1,
-        4 => draft.short[1] += 1,
-        5 if places > 0 => draft.rows[rng.below(places)].0 = value,
-        6 if places > 0 => draft.rows[rng.below(places)].1 = value,
-        7 if places > 0 => draft.rows.swap(rng.below(places), rng.below(places)),
-        8 if places > 0 => draft.rows[rng.below(places)].1 = draft.rows[rng.below(places)].1,
+        1 => (draft.record.k, draft.record.a) = any_sizes(rng),
+        2 => draft.short[0] += 1,
+        3 => draft.short[1] += 1,
+        4..=7 => disturb_counters(&mut draft.record, rng),
+        8 if places > 0 => draft.rows[rng.below(places)].0 = value,
+        9 if places > 0 => draft.rows[rng.below(places)].1 = value,
+        10 if places > 0 => draft.rows.swap(rng.below(places), rng.below(places)),
+        11 if places > 0 => draft.rows[rng.below(places)].1 = draft.rows[rng.below(places)].1,
         _ => {}
     }
 }
@@ -270,8 +391,27 @@ fn small_records(rows: &[(u32, u32)], give: &mut impl FnMut(&Draft)) {
     for k in 1..=3 {
         for a in 1..=k {
             for s in 0..=4 {
-                let record = Record { k, a, requests: 5, evictions: 1, s };
+                let record = Record { k, a, requests: 5, evictions: 1, s, appends: 3, joins: 1, lifts: 1 };
                 give(&Draft { record, rows: rows.to_vec(), spare: 0, short: [0, 0], page: 0 });
+            }
+        }
+    }
+}
+
+/// Every record with counters from a few numbers, on tables at which rules 1a, 1b, 1b for a = k and 1c apply
+/// and on one without a place for the page, given to a function. Most of them are not well formed.
+pub fn all_counters(mut give: impl FnMut(&Draft)) {
+    const NUMBERS: [u32; 7] = [0, 1, 2, 3, 1 << 31, u32::MAX - 1, u32::MAX];
+    for (a, trace, spare, page) in
+        [(1, &[1][..], 1, 2), (1, &[1, 2], 1, 3), (2, &[1, 2], 0, 3), (1, &[1, 2], 0, 1), (1, &[1], 0, 2)]
+    {
+        let mut draft = Draft::after(2, a, trace, spare);
+        draft.page = page;
+        for places in all_lists(NUMBERS.len() as u32, 5) {
+            let counters: Vec<u32> = places.iter().map(|&place| NUMBERS[place as usize]).collect();
+            if let [requests, evictions, appends, joins, lifts] = counters[..] {
+                draft.record = Record { requests, evictions, appends, joins, lifts, ..draft.record };
+                give(&draft);
             }
         }
     }
@@ -296,7 +436,8 @@ pub fn wide(used: usize, rng: &mut Rng) -> Draft {
         let twice = name(rng.below(used));
         layers[rng.below(k - a)].insert(twice);
     }
-    let record = Record { k: k as u32, a: a as u32, requests: 70_000, evictions: 9, s: k as u32 };
+    let (k, a) = (k as u32, a as u32);
+    let record = Record { k, a, requests: 70_000, evictions: 9, s: k, appends: 69_900, joins: 9, lifts: 91 };
     let rows = (1..).zip(&layers).flat_map(|(n, layer)| layer.iter().map(move |&page| (n, page))).collect();
     Draft { record, rows, spare: rng.below(2), short: [0, 0], page: name(rng.below(used + used / 4)) }
 }

@@ -1,10 +1,7 @@
 use native.Mathlib.Omega.{arith}
 use mathlib.Core.Path.{sym, _∙_, refl}
 use borrow.Author.Needs.{needs}
-use Rattle.lists.proofs.Choice.{bit-le}
-use Rattle.paging.specs.Layers.{isJoin}
-use Rattle.table.specs.Serving.{ruleOf}
-use Rattle.layers.proofs.Refusing.{state-ready, sound, evictions-low, request-refused, request-state, request-last, request-full, rows-kept, request-served, pages-same, numbers-same}
+use Rattle.layers.proofs.Refusing.{state-ready, sound, counters-fit, request-refused, request-state, request-last, request-full, rows-kept, request-served, pages-same, numbers-same}
 use Rattle.layers.proofs.request.Statement.{statement}
 use Rattle.layers.proofs.request.Tie as tie
 
@@ -72,49 +69,39 @@ returns-3 c =
       numbers-same numbers pages (step .last .1 .1 .1 .1 .1 .0) (step .last .1 .1 .1 .1 .0) l (omega arith) k ∙ t .2,
     )
 
-add-t17 : tie.Need-add-t17
-add-t17 c =
-    let if2 = c .before .before .before .before .before .before .before .before .before .if2 in
-    let m = if2 .left in omega (arith, m)
-
-add-t19 : tie.Need-add-t19
-add-t19 c =
-    let start = c .before .before .before .before .before .before .before .before .before .before .before .before .before .before .before .before .before .before .before
-    in
+answered-requires : tie.Need-answered-requires
+answered-requires c κs =
+    let start = c .before .before .before .before .before .before .before .before .before .before .before .before .before .before .before .before in
     let numbers = start .args .numbers .now in
     let pages = start .args .pages .now in
     let run = start .args .run in
-    let state-refusal = c .before .before .before .before .before .before .before .before .before .before .before .before .before .before .state-refusal in
-    let if1 = c .before .before .before .before .before .before .before .before .before .before .before .before .before .if1 in
-    let if2 = c .before .before .before .before .before .before .before .before .before .before .before .if2 in
-    let step = c .before .before .before .before .before .before .before .before .step in
-    let m = if2 .left in
+    let state-refusal = c .before .before .before .before .before .before .before .before .before .before .before .state-refusal in
+    let if1 = c .before .before .before .before .before .before .before .before .before .before .if1 in
+    let if2 = c .before .before .before .before .before .before .before .before .if2 in
+    let more = if2 .left in
     let z = sym (state-refusal .ensures) ∙ if1 .left in
-    let r = state-ready run pages numbers z in
-    let e = evictions-low run pages numbers r in
-    omega (arith, m, c .before .bundles .ensures, bit-le (isJoin (ruleOf (step .result .rule))))
+    counters-fit run pages numbers (state-ready run pages numbers z) (omega (arith, more))
 
 returns-4 : tie.Need-returns-4
 returns-4 c =
-    let start = c .before .before .before .before .before .before .before .before .before .before .before .before .before .before .before .before .before .before .before
-    in
+    let start = c .before .before .before .before .before .before .before .before .before .before .before .before .before .before .before .before .before in
     let numbers = start .args .numbers .now in
     let page = start .args .page in
     let pages = start .args .pages .now in
     let run = start .args .run in
-    let state-refusal = c .before .before .before .before .before .before .before .before .before .before .before .before .before .before .state-refusal in
-    let if1 = c .before .before .before .before .before .before .before .before .before .before .before .before .before .if1 in
-    let if2 = c .before .before .before .before .before .before .before .before .before .before .before .if2 in
-    let step = c .before .before .before .before .before .before .before .before .step in
-    let if3 = c .before .before .before .if3 in
-    let bundles = c .before .bundles in
+    let state-refusal = c .before .before .before .before .before .before .before .before .before .before .before .before .state-refusal in
+    let if1 = c .before .before .before .before .before .before .before .before .before .before .before .if1 in
+    let if2 = c .before .before .before .before .before .before .before .before .before .if2 in
+    let step = c .before .before .before .before .before .before .step in
+    let if3 = c .before .if3 in
     let z = sym (state-refusal .ensures) ∙ if1 .left in
     let r = state-ready run pages numbers z in
     let l = r .even in
     let lp = step .kept .1 .1 .1 .1 .0 in
     let ln = step .kept .1 .1 .1 .1 .1 .0 in
-    request-served run pages numbers page z (if2 .left) (step .result) _ (step .ensures) (bundles .result)
-    (step .last .1 .1 .1 .1 .0) (step .last .1 .1 .1 .1 .1 .0) (if3 .left) (bundles .ensures) refl (omega arith)
+    let t = request-served run pages numbers page z (if2 .left) (step .result) _ (step .ensures)
+    (step .last .1 .1 .1 .1 .0) (step .last .1 .1 .1 .1 .1 .0) (if3 .left) refl (omega arith) in
+    (c .answered .ensures ∙ t .0, t .1, t .2)
 
 pub request-spec : {M : Type 1} → statement M
 request-spec =
@@ -134,9 +121,7 @@ request-spec =
     (λ c. search needs)
     (λ c. search needs)
     returns-3
-    add-t17
-    (λ c κs. search needs)
-    add-t19
+    answered-requires
     (λ c. search needs)
     (λ c. search needs)
     returns-4)
