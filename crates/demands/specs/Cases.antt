@@ -102,6 +102,7 @@ named possibleSet = 0
 named countDiffers = 0
 named (brokenAt layer) = layer
 
+-- the fields of a reply, the record's after the refusal
 abbrev pub fieldsOf : LayersReply → List ℕ
 fieldsOf r =
     r .refusal ∷ r .run .k ∷ r .run .a ∷ r .run .requests ∷ r .run .evictions ∷ r .run .s

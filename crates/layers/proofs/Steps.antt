@@ -57,7 +57,7 @@ no-overflow k a places trace h = fits-from k a places trace nothingYet (omega ar
 -- The state that stands for a trace
 
 -- the rule for a page behind the trace
-abbrev ruleAfter : (k a : ℕ) (trace : List ℕ) (p : ℕ) → LayerRule
+abbrev pub ruleAfter : (k a : ℕ) (trace : List ℕ) (p : ℕ) → LayerRule
 ruleAfter k a trace p = layerRule k (layersAfter k a trace noLayers .of p) (layersAfter k a trace noLayers .top)
 
 abbrev pub runAfter : (k a : ℕ) (trace : List ℕ) → LayersRun

@@ -163,7 +163,7 @@ fn layers_sized(run: LayersRun, numbers: &[u32]) -> bool
     single_above(&sizes, 0, s)
 }
 
-// Whether the table is as the record says, for sizes that were judged.
+// Whether the record and the table are as document 01 asks, for sizes that were judged.
 fn table_formed(run: LayersRun, pages: &[u32], numbers: &[u32]) -> bool
     requires { ⌜ (length (now pages) ≡ length (now numbers)) × (run .a ≤ run .k) × (run .k ≤ largestK) ⌝ }
     ensures { λ r. ⌜ r ≡ tableFormed run (rowsOf (now (numbers .entry)) (now (pages .entry))) ⌝ }
@@ -198,7 +198,7 @@ fn counts_formed(run: LayersRun) -> bool
     false
 }
 
-// Whether the record and the table are well formed, for sizes that were judged. The counts are a matter of a few steps, so they come first.
+// Whether the record and the table are well formed, for sizes that were judged. The counts take a few steps only, so they come first.
 pub(crate) fn well_formed(run: LayersRun, pages: &[u32], numbers: &[u32]) -> bool
     requires { ⌜ (length (now pages) ≡ length (now numbers)) × (run .a ≤ run .k) × (run .k ≤ largestK) ⌝ }
     ensures { λ r. ⌜ r ≡ layersWellFormed run (rowsOf (now (numbers .entry)) (now (pages .entry))) ⌝ }

@@ -15,7 +15,7 @@ fn any_set(state: &State, rng: &mut Rng) -> Vec<u32> {
     let count = state.record.s.min(300) as usize + rng.pick(&[0, 0, 0, 0, 1]);
     let first = rng.below(held.len() + 1);
     let mut set: Vec<u32> = (0..count)
-        .map(|place| match held.get(held.len() - 1 - (first + place) % held.len().max(1)) {
+        .map(|place| match held.iter().rev().nth((first + place) % held.len().max(1)) {
             Some(&page) if !rng.once_in(6) => page,
             _ => rng.below(20) as u32,
         })
