@@ -1,4 +1,4 @@
-//! The alpha-paging bench a second time, written from document 01 and document 02's requests alone, and what
+//! The alpha-paging bench a second time, written from document 01 and document 02's requests, and what
 //! the test programs share. Nothing here is taken from the proved crates.
 //!
 //! `model` is the second implementation: slow where slow is plainer.
