@@ -15,17 +15,18 @@
 extern "C" {
 #endif
 
-/* Why two files are refused. The judge answers with the number made negative. */
+/* Why two files are refused. The judge answers with the number made negative; 8 to 12 are those of other calls. */
 enum judge_refusal {
     JUDGE_BAD_K = 1,             /* k is not from 1 to 256 */
     JUDGE_BAD_A = 2,             /* a is not from 1 to k */
-    JUDGE_TOO_MANY_REQUESTS = 3, /* more than 65,536 requests */
+    JUDGE_TOO_MANY_REQUESTS = 3, /* more than 65,536 requests, each one of a run counted */
     JUDGE_BAD_MARK = 4,          /* no mark where one is due, or one that belongs elsewhere */
     JUDGE_CUT_FILE = 5,          /* a file is empty, or stops before a record is complete */
     JUDGE_BAD_SCHEDULE = 6,      /* the two KAs differ; a t is lower than before or of no request; an
                                     EV has no page or more than a, or stands behind a PF of its t; a
                                     page that is to go is not held, or one that is to come is */
-    JUDGE_TOO_MANY_PAGES = 7     /* a request leaves more than k pages */
+    JUDGE_TOO_MANY_PAGES = 7,    /* a request leaves more than k pages */
+    JUDGE_EMPTY_RUN = 13         /* a run (RR) in the trace has no request */
 };
 
 /*

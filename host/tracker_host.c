@@ -87,6 +87,8 @@ static const char *words(int64_t refusal)
         return "a record of the schedule does not fit the trace or the pages held";
     case JUDGE_TOO_MANY_PAGES:
         return "more than k pages are held after a request";
+    case JUDGE_EMPTY_RUN:
+        return "a run (RR) of no request";
     default:
         return "unknown refusal";
     }

@@ -3,6 +3,7 @@
 pub mod files;
 pub mod layers;
 pub mod queue;
+pub mod runs;
 pub mod traces;
 
 use crate::report::differs;

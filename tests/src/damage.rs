@@ -1,14 +1,16 @@
 //! Damage to the bytes of a file.
 
+use crate::model::files::put_run;
 use crate::rng::Rng;
 
-const MARKS: [&[u8; 2]; 10] = [b"KA", b"RQ", b"EV", b"PF", b"AK", b"QR", b"rq", b"VE", b"FP", b"\0\0"];
+const KNOWN: [&[u8; 2]; 5] = [b"KA", b"RQ", b"RR", b"EV", b"PF"];
+const UNKNOWN: [&[u8; 2]; 6] = [b"AK", b"QR", b"rq", b"VE", b"FP", b"\0\0"];
 
 /// One piece of damage. The file may come out as it was.
 pub fn damage(bytes: &[u8], rng: &mut Rng) -> Vec<u8> {
     let mut out = bytes.to_vec();
     let at = rng.below(out.len() + 1);
-    match rng.below(9) {
+    match rng.below(10) {
         0 => out.truncate(at),
         1 => cut_near_end(&mut out, rng),
         2 => change_byte(&mut out, rng),
@@ -17,9 +19,15 @@ pub fn damage(bytes: &[u8], rng: &mut Rng) -> Vec<u8> {
         5 if at < out.len() => drop(out.remove(at)),
         6 => repeat_part(&mut out, rng),
         7 => out.extend((0..rng.between(1, 12)).map(|_| rng.byte())),
+        8 => change_times(&mut out, rng),
         _ => change_head(&mut out, rng),
     }
     out
+}
+
+/// Several pieces of damage, one after the other.
+pub fn damaged(bytes: &[u8], pieces: usize, rng: &mut Rng) -> Vec<u8> {
+    (0..pieces).fold(bytes.to_vec(), |file, _| damage(&file, rng))
 }
 
 fn cut_near_end(out: &mut Vec<u8>, rng: &mut Rng) {
@@ -34,14 +42,31 @@ fn change_byte(out: &mut [u8], rng: &mut Rng) {
     }
 }
 
+/// Where one of these marks stands with at least so many bytes from it on.
+fn places(bytes: &[u8], marks: &[&[u8; 2]], length: usize) -> Vec<usize> {
+    let stands = |at: usize| marks.iter().any(|&mark| bytes[at..].starts_with(mark));
+    (0..(bytes.len() + 1).saturating_sub(length)).filter(|&at| stands(at)).collect()
+}
+
 /// Puts another mark over one that is there.
 fn change_mark(out: &mut [u8], rng: &mut Rng) {
-    let known = |pair: &[u8]| MARKS[..4].iter().any(|&mark| mark == pair);
-    let places: Vec<usize> = (0..out.len().saturating_sub(1)).filter(|&at| known(&out[at..at + 2])).collect();
+    let places = places(out, &KNOWN, 2);
     if !places.is_empty() {
         let at = rng.pick(&places);
-        let mark = rng.pick(&MARKS);
+        let mark = if rng.once_in(2) { rng.pick(&KNOWN) } else { rng.pick(&UNKNOWN) };
         out[at..at + 2].copy_from_slice(mark);
+    }
+}
+
+/// Other times for an RR: none, few or very many. A file without an RR gets one at its end.
+fn change_times(out: &mut Vec<u8>, rng: &mut Rng) {
+    let times = rng.pick(&[0, 0, 0, 1, 2, 256, 4_095, 4_096, 4_097, 65_535]);
+    let places = places(out, &[b"RR"], 8);
+    if places.is_empty() {
+        put_run(out, rng.word(), times);
+    } else {
+        let at = rng.pick(&places) + 6;
+        out[at..at + 2].copy_from_slice(&times.to_le_bytes());
     }
 }
 

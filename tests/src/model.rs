@@ -1,5 +1,5 @@
-//! Document 01's rules, Req 01's for oldest load first, and Req 02's for what the layers answer and count by
-//! rule: the limits, and a file for each part.
+//! Document 01's rules, Req 01's for oldest load first, Req 02's for what the layers answer and count by rule,
+//! and Req 03's for runs of one page: the limits, and a file for each part.
 
 pub mod fifo;
 pub mod files;

@@ -1,5 +1,6 @@
 //! Traces to test and to time with.
 
+use crate::model::files::{trace_of, Asked};
 use crate::rng::Rng;
 
 /// The four kinds that are timed; the tests use them too.
@@ -81,6 +82,64 @@ pub fn any(k: u32, a: u32, n: usize, rng: &mut Rng) -> Vec<u32> {
     }
     let kind = rng.pick(&KINDS);
     of_kind(kind, k, a, n, rng, name)
+}
+
+/// The same number of requests, but about one page in `every` is asked for 1 to `longest` times in a row.
+pub fn parked(pages: &[u32], every: usize, longest: usize, rng: &mut Rng) -> Vec<u32> {
+    let mut out = Vec::new();
+    for &page in pages {
+        let times = if rng.once_in(every) { rng.between(1, longest) } else { 1 };
+        let left = pages.len() - out.len();
+        out.extend(vec![page; times.min(left)]);
+    }
+    out
+}
+
+/// A trace of n requests like `any`, in which pages are mostly asked for several times in a row.
+pub fn any_parked(k: u32, a: u32, n: usize, rng: &mut Rng) -> Vec<u32> {
+    let pages = any(k, a, n, rng);
+    let (every, longest) = (rng.between(1, 4), rng.pick(&[2, 3, 9, n / 2 + 1]));
+    parked(&pages, every, longest, rng)
+}
+
+/// The records of a trace. `first` is given a page and how often it is asked for in a row from here on, and
+/// says which record stands for the first of these requests.
+fn records(pages: &[u32], mut first: impl FnMut(u32, usize) -> Asked) -> Vec<Asked> {
+    let mut out = Vec::new();
+    let mut rest = pages;
+    while let Some(&page) = rest.first() {
+        let stretch = rest.iter().take_while(|&&other| other == page).count();
+        let mut done = 0;
+        while done < stretch {
+            let record = first(page, stretch - done);
+            done += record.requests();
+            out.push(record);
+        }
+        rest = &rest[stretch..];
+    }
+    out
+}
+
+/// The longest RR for some requests of a page in a row.
+fn longest_run(page: u32, requests: usize) -> Asked {
+    Asked::Rr { page, times: requests.min(65_535) as u16 }
+}
+
+/// The records of a trace with an RR for each page that is asked for twice or more in a row.
+pub fn in_runs(pages: &[u32]) -> Vec<Asked> {
+    records(pages, |page, left| if left == 1 { Asked::Rq { page } } else { longest_run(page, left) })
+}
+
+/// The bytes of a trace's file in drawn records: requests of a page in a row are cut anywhere into RQs and
+/// RRs, also of one request, also side by side, or are all one RR.
+pub fn edition(k: u32, a: u32, pages: &[u32], rng: &mut Rng) -> Vec<u8> {
+    let drawn = records(pages, |page, left| match rng.below(4) {
+        0 => Asked::Rq { page },
+        1 => longest_run(page, rng.between(1, left)),
+        2 => longest_run(page, rng.between(1, left.min(3))),
+        _ => longest_run(page, left),
+    });
+    trace_of(k, a, &drawn)
 }
 
 /// A sound pair k, a: small ones mostly, and the ends.

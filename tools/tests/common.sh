@@ -22,6 +22,13 @@ out() { [ "$(cat "$made/out")" = "$1" ] || fail "'$(cat "$made/out")' where '$1'
 quiet() { [ ! -s "$made/err" ] || fail "words where none are due: $(cat "$made/err")"; }
 says() { grep -qF -- "$1" "$made/err" || fail "no '$1' in: $(cat "$made/err")"; } # WORDS
 
+# Writes a trace anew with an RQ for each request: no runs.
+singles() { # FILE K A
+    tools/tracefile show "$1" |
+        awk '!/^#/ { split($1, part, "*"); for (n = part[2] == "" ? 1 : part[2]; n > 0; n--) print part[1] }' |
+        tools/tracefile make "$2" "$3" -
+}
+
 # A PATH with what tools/run and tools/build use, and no rt.
 path_without_rt() {
     local command

@@ -1,6 +1,6 @@
-// The calls on bytes of document 01, made with the numbers and lists of a row; each prints its answer.
+// The calls on bytes of documents 01 and 02, made with the numbers and lists of a row; each prints its answer.
 //   bytes          lists of numbers as bytes
-//   records_read   the readers of records
+//   records_read   the readers of records, and of a whole trace
 //   writing        the writers of records
 use cases_rows::row::Numbers;
 use cases_rows::show;
@@ -16,11 +16,15 @@ const TRACE: u16 = b't' as u16 + 256 * b'r' as u16;
 
 const SCHEDULE: u16 = b's' as u16 + 256 * b'c' as u16;
 
+const COUNT: u16 = b'c' as u16 + 256 * b'o' as u16;
+
 const FARTHEST: u16 = b'f' as u16 + 256 * b'a' as u16;
 
 pub(crate) const KA: u16 = b'k' as u16 + 256 * b'a' as u16;
 
 pub(crate) const RQ: u16 = b'r' as u16 + 256 * b'q' as u16;
+
+pub(crate) const RR: u16 = b'r' as u16 + 256 * b'r' as u16;
 
 pub(crate) const EV: u16 = b'e' as u16 + 256 * b'v' as u16;
 
@@ -41,8 +45,9 @@ fn on_bytes(call: u16, n: Numbers, file: &mut [u8], trace: &[u8], pages: &[u32])
         JUDGE => judged(judge::judge(trace, file)),
         TRACE => records_read::trace(file, n.0),
         SCHEDULE => records_read::schedule(file, n.0),
+        COUNT => records_read::count(file, n.0),
         FARTHEST => farthest(n.0, n.1, pages, file),
-        KA | RQ | EV | PF => writing::record(call, n, file, pages),
+        KA | RQ | RR | EV | PF => writing::record(call, n, file, pages),
         _ => show::text(b" no such call"),
     }
 }
@@ -60,6 +65,7 @@ fn judged(answer: i64) {
         -5 => show::refused(5),
         -6 => show::refused(6),
         -7 => show::refused(7),
+        -13 => show::refused(13),
         _ => show::text(b" another answer"),
     }
 }

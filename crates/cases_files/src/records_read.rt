@@ -11,11 +11,7 @@ pub(crate) fn trace(file: &[u8], at: u32) {
     let found = trace_at(file, bytes::offset(at));
     match found {
         TraceRecord::Sizes { k, a, next } => fields(b" KA", k, a, next),
-        TraceRecord::Request { page, next } => {
-            show::text(b" RQ");
-            show::figure(page);
-            behind(next);
-        }
+        TraceRecord::Request { page, times, next } => request(page, times, next),
         TraceRecord::End => show::text(b" end"),
         TraceRecord::Refused(number) => show::refused(number),
     }
@@ -30,6 +26,27 @@ pub(crate) fn schedule(file: &[u8], at: u32) {
         ScheduleRecord::Fetch { t, page, next } => fields(b" PF", t, page, next),
         ScheduleRecord::End => show::text(b" end"),
         ScheduleRecord::Refused(number) => show::refused(number),
+    }
+}
+
+// So many requests for a page in a row: once in an RQ.
+fn request(page: u32, times: u16, next: usize) {
+    show::text(b" request");
+    show::figure(page);
+    show::text(b", times");
+    show::figure(times as u32);
+    behind(next);
+}
+
+// A trace file read whole with a limit: k, a and the number of requests.
+pub(crate) fn count(file: &[u8], most: u32) {
+    let told = traces::count(file, bytes::offset(most));
+    if told.refusal != 0 {
+        show::refused(told.refusal);
+    } else {
+        show::figure(told.k);
+        show::figure(told.a);
+        show::length(told.requests);
     }
 }
 

@@ -19,6 +19,7 @@ fn write(mark: u16, at: usize, one: u32, two: u32, out: &mut [u8], pages: &[u32]
     match mark {
         crate::KA => write::ka(out, at, one, two),
         crate::RQ => write::rq(out, at, one),
+        crate::RR => write::rr(out, at, one, (two % 65536) as u16),
         crate::EV => write::ev(out, at, one, pages),
         _ => write::pf(out, at, one, two),
     }

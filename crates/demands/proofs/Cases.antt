@@ -9,18 +9,18 @@ use Rattle.paging.specs.Refusals.{sizesRefusal, traceRefusal}
 use Rattle.paging.specs.Same.{samePages, sameEntries}
 use Rattle.records.specs.Marks.{markOf, markAt}
 use Rattle.reading.specs.Files.{requestsFrom}
-use Rattle.reading.specs.Reading.{kaRead, rqRead, readTrace}
+use Rattle.reading.specs.Reading.{kaRead, rqRead, rrRead, requestRead, readTrace}
+use Rattle.traces.specs.Traces.{traceFile}
 use Rattle.queue.specs.Calls.{runRefusal, wellFormed}
 use Rattle.layers.specs.Calls.{stateRefusal, requestRefusal, requestReply, pagesNext, numbersNext}
 use Rattle.layers.specs.Formed.{isUnused, follows, tableFormed, countsFormed, layersWellFormed}
 use Rattle.layers.specs.Questions.{verdict, possibleRefusal}
 use Rattle.layers.specs.Traces.{earlyRefusal, traceTotals}
 use Rattle.report.specs.Calls.{figures, reportOf}
-use Rattle.report.specs.Traces.{traceFile}
 use Rattle.demands.specs.Cases.{allRight, markedCases, requestedCases}
 
 pub marked-cases-hold : allRight (markedCases ++ requestedCases) ≡ true
-unfolding sameEntries samePages _and_ _or_ rowBefore farther sizesRefusal traceRefusal markOf markAt kaRead rqRead readTrace requestsFrom traceFile figures
+unfolding sameEntries samePages _and_ _or_ rowBefore farther sizesRefusal traceRefusal markOf markAt kaRead rqRead rrRead requestRead readTrace requestsFrom traceFile figures
     reportOf runRefusal wellFormed isUnused follows tableFormed countsFormed layersWellFormed stateRefusal requestRefusal requestReply pagesNext numbersNext
     verdict possibleRefusal earlyRefusal traceTotals
 marked-cases-hold = refl

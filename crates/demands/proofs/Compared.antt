@@ -12,7 +12,7 @@ use Rattle.theory.specs.Factor.{ceilDiv}
 use Rattle.theory.proofs.Best.{min-serves, min-costs-best, serving-costs-best, layers-count-best}
 use Rattle.theory.proofs.Front.{front-within-factor, lru-within-factor, fifo-within-layers}
 use Rattle.theory.proofs.Possible.{possible-is-what-min-can-hold, min-holds-possible-sets}
-use Rattle.records.specs.Bytes.{traceBytes}
+use Rattle.records.specs.Bytes.{TraceFileOf}
 use Rattle.queue.specs.Standing.{Call, acceptedPages, afterCalls, emptyState}
 use Rattle.queue.specs.declared.Run.{Run}
 use Rattle.queue.proofs.Steps.{calls-from-empty}
@@ -32,10 +32,10 @@ use Rattle.demands.proofs.LayersLists.{list-stands}
 
 -- MIN's schedule, and the judge's answer to it
 
-judge-answers : (k a : ℕ) → 1 ≤ a → a ≤ k → k ≤ 256 → (trace out : List ℕ) → scheduleRefusal k a trace out ≡ 0
-    → judged (traceBytes k a trace) (scheduleWritten k a trace out) ≡ cost (bestCount k a trace)
-judge-answers k a pos le small trace out e =
-    complete (traceBytes k a trace) (scheduleWritten k a trace out) (bestCount k a trace)
+judge-answers : (k a : ℕ) → 1 ≤ a → a ≤ k → k ≤ 256 → (trace out file : List ℕ) → scheduleRefusal k a trace out ≡ 0 → TraceFileOf k a trace file
+    → judged file (scheduleWritten k a trace out) ≡ cost (bestCount k a trace)
+judge-answers k a pos le small trace out file e is =
+    complete file (scheduleWritten k a trace out) (bestCount k a trace)
     (record {
       k = k;
       a = a;
@@ -43,7 +43,7 @@ judge-answers k a pos le small trace out e =
       entries = minEntries k a trace;
       sizes = record { a-low = pos; a-high = le; k-high = small };
       few = trace-right k a trace (bytesRefusal k a trace out) e .1;
-      trace-is = refl;
+      trace-is = is;
       schedule-is = schedule-written k a trace out e;
       legal = min-serves k a pos le trace;
       costs = sym (min-costs-best k a pos le trace);
@@ -98,7 +98,7 @@ compares k a pos le small =
       min-counts-the-best-count = λ trace e. rw e refl;
       min-reports-the-best-count = λ trace out e. rw e refl;
       min-writes-its-schedule = schedule-written k a;
-      judge-answers-the-best-count = λ trace out e. ap answerNumber (judge-answers k a pos le small trace out e);
+      judge-answers-the-best-count = λ trace out file e is. ap answerNumber (judge-answers k a pos le small trace out file e is);
     }
 
 pub demand-3-holds : Demand3

@@ -1,4 +1,5 @@
 pub mod LayersLists
 pub mod Rules
+pub mod Runs
 pub mod Compared
 mod Cases

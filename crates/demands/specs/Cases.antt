@@ -12,7 +12,7 @@ use Rattle.paging.specs.Schedule.{Entry, ev}
 use Rattle.paging.specs.Same.{samePages, sameEntries, shift}
 use Rattle.paging.specs.declared.Keeping.{Keeping}
 use Rattle.paging.specs.declared.Keeping.the-variants.{ByRequest, ByLoad}
-use Rattle.records.specs.Bytes.{traceBytes}
+use Rattle.records.specs.Bytes.{rq, rr, traceBytes, singles}
 use Rattle.queue.specs.Calls.{cacheOf, evictedOf, totalsOf}
 use Rattle.queue.specs.Serving.{emptyRun}
 use Rattle.queue.specs.Standing.{Call, State, afterCalls, emptyState}
@@ -22,7 +22,7 @@ use Rattle.layers.specs.Traces.{traceTotals}
 use Rattle.layers.specs.declared.LayersReply.{LayersReply}
 use Rattle.layers.specs.declared.LayersRun.{LayersRun}
 use Rattle.min.specs.Calls.{countsOf}
-use Rattle.report.specs.Calls.{counts, layersCounts, reportOf}
+use Rattle.report.specs.Calls.{counts, layersCounts, refusedReport, reportOf}
 use Rattle.report.specs.declared.Report.{Report}
 use Rattle.demands.specs.Demand3.{minEntries}
 use Rattle.demands.specs.LayersCalls.{LayersCall, request, LayersState, layersStart, layersNext, layersAfterCalls}
@@ -147,7 +147,7 @@ right (refuses k a places pages page number) =
 abbrev pub markedCases : List Row
 markedCases =
     -- 1. the four lines' numbers, of the shift's 54 bytes, and since document 02's request 01 the line `fifo`
-    reports (traceBytes 3 2 shift)
+    reports (traceBytes 3 2 (singles shift))
     (record { refusal = 0; k = 3; a = 2; requests = 8; min = counts 2 7; lru = counts 3 8; fifo = counts 3 8; layers = layersCounts 2 3 2 })
     -- 2. MIN's bundles
     ∷ minEvicts 3 2 shift (ev 3 (3 ∷ 1 ∷ []) ∷ ev 6 (2 ∷ 4 ∷ []) ∷ [])
@@ -217,6 +217,15 @@ requestedCases =
     -- counts that add up to 2 to the 32nd and no requests, and joins apart from evictions, are 9
     ∷ replies (record { k = 2; a = 1; requests = 0; evictions = 0; s = 0; appends = 4294967295; joins = 0; lifts = 1 }) (0 ∷ []) (0 ∷ []) 1 (9 ∷ replicate 9 0)
     ∷ replies (record { k = 2; a = 1; requests = 1; evictions = 0; s = 1; appends = 0; joins = 1; lifts = 0 }) (1 ∷ []) (1 ∷ []) 1 (9 ∷ replicate 9 0)
+    -- 03. k 2, a 1, pages 1 1 1 2 2 3 1, in runs and one by one: request numbers count single requests
+    ∷ reports (traceBytes 2 1 (rr 1 3 ∷ rr 2 2 ∷ rq 3 ∷ rr 1 1 ∷ []))
+    (record { refusal = 0; k = 2; a = 1; requests = 7; min = counts 1 3; lru = counts 2 4; fifo = counts 2 4; layers = layersCounts 1 2 2 })
+    ∷ reports (traceBytes 2 1 (singles (1 ∷ 1 ∷ 1 ∷ 2 ∷ 2 ∷ 3 ∷ 1 ∷ [])))
+    (record { refusal = 0; k = 2; a = 1; requests = 7; min = counts 1 3; lru = counts 2 4; fifo = counts 2 4; layers = layersCounts 1 2 2 })
+    -- a run of no request is 13; the run that passes 4,096 requests is 3, whatever follows it, but one of none right behind them is 13
+    ∷ reports (traceBytes 3 2 (rq 5 ∷ rr 5 0 ∷ [])) (refusedReport 13)
+    ∷ reports (traceBytes 3 2 (rr 5 4095 ∷ rr 5 2 ∷ rr 5 0 ∷ [])) (refusedReport 3)
+    ∷ reports (traceBytes 3 2 (rr 5 4096 ∷ rr 5 0 ∷ [])) (refusedReport 13)
     ∷ []
 
 abbrev pub allRight : List Row → Bool

@@ -2,7 +2,7 @@
 use Prim.Native.Nat.{ℕ, _*_, _≤_}
 use mathlib.Core.Bool.{true}
 use mathlib.Core.List.{List, []}
-use mathlib.Core.Logic.{_↔_}
+use mathlib.Core.Logic.{_↔_, _⊎_}
 use mathlib.Core.Path.{_≡_}
 use lib.IntN.{pos}
 use Rattle.lists.specs.Pages.{distinct}
@@ -14,7 +14,7 @@ use Rattle.paging.specs.declared.Keeping.the-variants.{ByRequest, ByLoad}
 use Rattle.theory.specs.Factor.{ceilDiv}
 use Rattle.theory.specs.Possible.{CanHold, HoldsJust}
 use Rattle.wire.specs.Numbers.{Bytes}
-use Rattle.records.specs.Bytes.{traceBytes, scheduleBytes}
+use Rattle.records.specs.Bytes.{TraceFileOf, scheduleBytes}
 use Rattle.queue.specs.Standing.{Call, afterCalls, acceptedPages, emptyState}
 use Rattle.layers.specs.Questions.{PossibleTold}
 use Rattle.layers.specs.declared.PossibleAnswer.{PossibleAnswer}
@@ -61,13 +61,13 @@ pub record Compares (k a : ℕ) : Type 0 where
       → (let x = layersAfterCalls calls (layersStart k a places) in PossibleTold (x .run) (x .pages) (x .numbers) set answer)
       → (later : List ℕ) → HoldsJust (holds (minRule a) k (layersTrace calls (layersStart k a places)) later []) set → answer ≡ Yes
   -- "for each trace that MIN accepts, the bundles it reports and the EVs it writes are each as many as its best count, and that number is
-  -- the judge's answer to a file of the trace and just the schedule's bytes"
+  -- the judge's answer to a file of the trace and just the schedule's bytes": to every file of it, with runs (document 02, request 03) or without
   pub min-counts-the-best-count : (trace : List ℕ) → traceRefusal k a trace 0 ≡ 0 → countsOf k a trace .bundles ≡ bestCount k a trace
   pub min-reports-the-best-count : (trace out : List ℕ) → scheduleRefusal k a trace out ≡ 0 → scheduledOf k a trace out .bundles ≡ bestCount k a trace
   pub min-writes-its-schedule : (trace out : List ℕ) → scheduleRefusal k a trace out ≡ 0
       → scheduleWritten k a trace out ≡ scheduleBytes k a (minEntries k a trace)
-  pub judge-answers-the-best-count : (trace out : List ℕ) → scheduleRefusal k a trace out ≡ 0
-      → answerNumber (judged (traceBytes k a trace) (scheduleWritten k a trace out)) ≡ pos (bestCount k a trace)
+  pub judge-answers-the-best-count : (trace out file : List ℕ) → scheduleRefusal k a trace out ≡ 0 → TraceFileOf k a trace file
+      → answerNumber (judged file (scheduleWritten k a trace out)) ≡ pos (bestCount k a trace)
 
 -- of a report: LRU's and oldest load's bundles are at most k/a, rounded up, times those that the layers count
 abbrev pub WithinFactor : Report → Type 0
@@ -82,8 +82,9 @@ pub record Demand3 : Type 0 where
   -- zero is a cost
   pub judge-answers-a-legal-cost : (trace schedule : List ℕ) → Bytes trace → Bytes schedule → (bundles : ℕ)
       → answerNumber (judged trace schedule) ≡ pos bundles → LegalFiles trace schedule bundles
-  -- and one below zero is a refusal's, from 1 to 7, made negative
-  pub judge-refuses-by-number : (trace schedule : List ℕ) (number : ℕ) → judged trace schedule ≡ refused number → (1 ≤ number) × (number ≤ 7)
+  -- and one below zero is a refusal's, from 1 to 7 or 13 (document 02, request 03), made negative
+  pub judge-refuses-by-number : (trace schedule : List ℕ) (number : ℕ) → judged trace schedule ≡ refused number
+      → (1 ≤ number) × ((number ≤ 7) ⊎ (number ≡ 13))
   -- what a depot reads off the bench (document 02, request 01): of every report the lines `lru` and `fifo` are within the factor of the line `layers`. Of a
   -- refused one all are zero
   pub reports-stay-within-the-factor : (input : List ℕ) → WithinFactor (reportOf input)

@@ -1,4 +1,5 @@
 pub mod LayersCalls
 pub mod Rules
+pub mod Runs
 pub mod Demand3
 pub mod Cases

@@ -21,7 +21,7 @@ abbrev pub answerFields : Answer → List ℕ
 answerFields (refused number) = 0 ∷ number ∷ 0 ∷ 0 ∷ 0 ∷ []
 answerFields ended = 1 ∷ 0 ∷ 0 ∷ 0 ∷ 0 ∷ []
 answerFields (sizes k a next) = 2 ∷ k ∷ a ∷ next ∷ 0 ∷ []
-answerFields (request page next) = 3 ∷ page ∷ next ∷ 0 ∷ 0 ∷ []
+answerFields (request page times next) = 3 ∷ page ∷ times ∷ next ∷ 0 ∷ []
 answerFields (bundle t n from next) = 4 ∷ t ∷ n ∷ from ∷ next ∷ []
 answerFields (fetch t page next) = 5 ∷ t ∷ page ∷ next ∷ 0 ∷ []
 

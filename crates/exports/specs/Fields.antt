@@ -1,6 +1,7 @@
 -- The fields of each answer that is a record, in the order in which a caller receives them: the refusal's number first, 0 for none.
 use Prim.Native.Nat.{ℕ}
 use mathlib.Core.List.{List, [], _∷_}
+use Rattle.traces.specs.declared.TraceCount.{TraceCount}
 use Rattle.queue.specs.declared.Reply.{Reply}
 use Rattle.queue.specs.declared.Totals.{Totals}
 use Rattle.min.specs.declared.Counts.{Counts}
@@ -15,6 +16,9 @@ queueReplyFields r =
 
 abbrev pub queueTotalsFields : Totals → List ℕ
 queueTotalsFields r = r .refusal ∷ r .bundles ∷ r .loads ∷ []
+
+abbrev pub traceCountFields : TraceCount → List ℕ
+traceCountFields r = r .refusal ∷ r .k ∷ r .a ∷ r .requests ∷ []
 
 abbrev pub countsFields : Counts → List ℕ
 countsFields r = r .refusal ∷ r .bundles ∷ r .loads ∷ []

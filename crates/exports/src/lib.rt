@@ -9,6 +9,7 @@
 //   min_calls     farthest next use, its counts and its schedule
 //   layers_calls  the layers, a request, the questions and a trace
 //   reader_calls  what stands at an offset of a file
+//   trace_calls   a trace file read whole
 //   writer_calls  a record into lent bytes
 mod fifo_calls;
 mod layers_calls;
@@ -18,4 +19,5 @@ mod queue_fields;
 mod reader_calls;
 mod sizes;
 mod store;
+mod trace_calls;
 mod writer_calls;

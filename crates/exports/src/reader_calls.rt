@@ -93,7 +93,13 @@ fn trace_fields(found: reading::TraceRecord) -> [u64; 5]
         reading::TraceRecord::Refused(number) => [0, number as u64, 0, 0, 0],
         reading::TraceRecord::End => [1, 0, 0, 0, 0],
         reading::TraceRecord::Sizes { k, a, next } => [2, k as u64, a as u64, next as u64, 0],
-        reading::TraceRecord::Request { page, next } => [3, page as u64, next as u64, 0, 0],
+        reading::TraceRecord::Request { page, times, next } => [
+            3,
+            page as u64,
+            times as u64,
+            next as u64,
+            0,
+        ],
     }
 }
 

@@ -1,8 +1,8 @@
 // The writers: a record into lent bytes from an offset on. The answer's fields: refusal, the offset behind the record.
 ghost use mathlib.Core.Path.{_≡_};
 ghost use Rattle.lists.specs.Places.{pasted};
-ghost use Rattle.records.specs.Bytes.{kaBytes, rqBytes, evBytes, pfBytes};
-ghost use Rattle.records.specs.Writing.{kaRefusal, rqRefusal, evRefusal, pfRefusal, wrote, outAfter};
+ghost use Rattle.records.specs.Bytes.{kaBytes, rqBytes, rrBytes, evBytes, pfBytes};
+ghost use Rattle.records.specs.Writing.{kaRefusal, rqRefusal, rrRefusal, evRefusal, pfRefusal, wrote, outAfter};
 ghost use Rattle.exports.specs.Cases.{wroteFields, writtenFields};
 use crate::store;
 use records::write;
@@ -23,6 +23,15 @@ pub extern "C" fn write_rq(bytes: &mut [u8], at: usize, page: u32, out: &mut [u6
         × (now (bytes .exit) ≡ outAfter (rqRefusal page (now (bytes .entry)) at) (rqBytes page) (now (bytes .entry)) at) ⌝ }
 {
     let all = written_fields(write::rq(bytes, at, page));
+    store::fields(&all, out);
+}
+
+#[no_mangle]
+pub extern "C" fn write_rr(bytes: &mut [u8], at: usize, page: u32, times: u16, out: &mut [u64])
+    ensures { λ _. ⌜ (now (out .exit) ≡ pasted (wroteFields (wrote (rrRefusal page times (now (bytes .entry)) at) (rrBytes page times) at)) (now (out .entry)))
+        × (now (bytes .exit) ≡ outAfter (rrRefusal page times (now (bytes .entry)) at) (rrBytes page times) (now (bytes .entry)) at) ⌝ }
+{
+    let all = written_fields(write::rr(bytes, at, page, times));
     store::fields(&all, out);
 }
 

@@ -9,7 +9,9 @@ use borrow.Author.Tests.{le-leb, lt-leb}
 use Rattle.lists.specs.Pages.{mem}
 use Rattle.lists.proofs.Choice.{cases}
 use Rattle.paging.specs.Schedule.{withPage}
-use Rattle.reading.specs.Files.{File, requestsFrom, before}
+use Rattle.reading.specs.Files.{File, before}
+use Rattle.traces.specs.Cursor.{requestsLeft}
+use Rattle.traces.specs.declared.cursor.Rest.{Rest}
 use Rattle.judging.specs.Judging.{closed, overfull, closing}
 use Rattle.judge.specs.inner.Fetches.{fetchedPages}
 use Rattle.judge.proofs.FetchLaws.{length-fetched}
@@ -33,27 +35,27 @@ close-none k (suc left) trace held h = absurd (omega arith)
 
 -- The loop: what is left to close, from the cursor and the m pages held, gives what the whole gives
 
-pub record Closes (trace : List ℕ) (k at count : ℕ) (held₀ : List ℕ) (n from left m : ℕ) (held : List ℕ) : Type 0 where
-  pub started : 0 < from
+pub record Closes (trace : List ℕ) (k : ℕ) (first : Rest) (count : ℕ) (held₀ : List ℕ) (n : ℕ) (rest : Rest) (left m : ℕ) (held : List ℕ) : Type 0 where
+  pub started : 0 < rest .from
   pub room : m ≤ k
   pub kept : length held ≡ length held₀
-  pub enough : left ≤ length (requestsFrom trace from .held)
-  pub damage : requestsFrom trace from .damage ≡ requestsFrom trace at .damage
-  pub same : closing k left (requestsFrom trace from .held) (take m held) ≡ closing k count (requestsFrom trace at .held) (take n held₀)
+  pub enough : left ≤ length (requestsLeft trace rest .held)
+  pub damage : requestsLeft trace rest .damage ≡ requestsLeft trace first .damage
+  pub same : closing k left (requestsLeft trace rest .held) (take m held) ≡ closing k count (requestsLeft trace first .held) (take n held₀)
 
-module _ (trace : List ℕ) (k at count : ℕ) (held₀ : List ℕ) (n from left m : ℕ) (held : List ℕ) (c : Closes trace k at count held₀ n from left m held) where
-  pub closes-done : left ≤ 0 → closed (requestsFrom trace from .held) (take m held) ≡ closing k count (requestsFrom trace at .held) (take n held₀)
+module _ (trace : List ℕ) (k : ℕ) (first : Rest) (count : ℕ) (held₀ : List ℕ) (n : ℕ) (rest : Rest) (left m : ℕ) (held : List ℕ) (c : Closes trace k first count held₀ n rest left m held) where
+  pub closes-done : left ≤ 0 → closed (requestsLeft trace rest .held) (take m held) ≡ closing k count (requestsLeft trace first .held) (take n held₀)
   closes-done h = sym (close-none k left _ _ h) ∙ c .same
 
-  module _ (page next : ℕ) (h : 0 < left) (e : requestsFrom trace from ≡ before (page ∷ []) (requestsFrom trace next)) where
-    pages : requestsFrom trace from .held ≡ page ∷ requestsFrom trace next .held
+  module _ (page : ℕ) (next : Rest) (h : 0 < left) (e : requestsLeft trace rest ≡ before (page ∷ []) (requestsLeft trace next)) where
+    pages : requestsLeft trace rest .held ≡ page ∷ requestsLeft trace next .held
     pages = ap (λ (f : File ℕ). f .held) e
 
-    pub closes-over : k < length (withPage page (take m held)) → overfull ≡ closing k count (requestsFrom trace at .held) (take n held₀)
-    closes-over l = sym (close-over k left page (requestsFrom trace next .held) (take m held) h l) ∙ (rw pages at (c .same))
+    pub closes-over : k < length (withPage page (take m held)) → overfull ≡ closing k count (requestsLeft trace first .held) (take n held₀)
+    closes-over l = sym (close-over k left page (requestsLeft trace next .held) (take m held) h l) ∙ (rw pages at (c .same))
 
-    pub closes-next : (m′ : ℕ) (held′ : List ℕ) → 0 < next → m′ ≤ k → length held′ ≡ length held → m′ ≡ length (withPage page (take m held))
-        → take m′ held′ ≡ withPage page (take m held) → Closes trace k at count held₀ n next (left - 1) m′ held′
+    pub closes-next : (m′ : ℕ) (held′ : List ℕ) → 0 < next .from → m′ ≤ k → length held′ ≡ length held → m′ ≡ length (withPage page (take m held))
+        → take m′ held′ ≡ withPage page (take m held) → Closes trace k first count held₀ n next (left - 1) m′ held′
     closes-next m′ held′ s r l q w =
         let d = c .enough in
         let size = ap length pages in
@@ -63,7 +65,7 @@ module _ (trace : List ℕ) (k at count : ℕ) (held₀ : List ℕ) (n from left
           kept = l ∙ c .kept;
           enough = omega arith;
           damage = sym (ap (λ (f : File ℕ). f .damage) e) ∙ c .damage;
-          same = rw w (sym (close-next k left page (requestsFrom trace next .held) (take m held) h (omega arith)) ∙ (rw pages at (c .same)));
+          same = rw w (sym (close-next k left page (requestsLeft trace next .held) (take m held) h (omega arith)) ∙ (rw pages at (c .same)));
         }
 
 -- Where the open request's PFs alone are too many

@@ -15,7 +15,8 @@ use Rattle.lists.proofs.Leaves.{mem-append}
 use Rattle.lists.proofs.Pages.{mem-append-l, mem-append-r}
 use Rattle.paging.specs.Schedule.{Entry, ev, pf, timeOf, heldInTurn}
 use Rattle.wire.specs.Numbers.{num32}
-use Rattle.reading.specs.Files.{requestsFrom}
+use Rattle.traces.specs.Cursor.{requestsLeft}
+use Rattle.traces.specs.declared.cursor.Rest.{Rest}
 use Rattle.judging.specs.Judging.{Standing, Step, on, stop, closing, opened, acted, arrived, stepped}
 use Rattle.judging.proofs.Exact.{closing-length}
 use Rattle.judge.specs.declared.closing.Closing as closings
@@ -69,7 +70,7 @@ module _ (k requests : ℕ) (trace schedule held : List ℕ) (p : Place) (u : �
   there e h = let d = f .counted in stays k u (standing trace schedule held p) e (omega arith)
 
   module _ (h : p .t < u) (l : u < requests) (r : closings.Closing) (after : List ℕ)
-      (q : closingOf trace after r ≡ closing k (u - p .t) (requestsFrom trace (p .at) .held) (take (p .n) held ++ fetchedPages schedule (p .from) (p .fetches)))
+      (q : closingOf trace after r ≡ closing k (u - p .t) (requestsLeft trace (p .rest) .held) (take (p .n) held ++ fetchedPages schedule (p .from) (p .fetches)))
     where
       pub seven : r ≡ Overfull → stop 7 ≡ arrived k u (standing trace schedule held p)
       seven e =
@@ -77,21 +78,21 @@ module _ (k requests : ℕ) (trace schedule held : List ℕ) (p : Place) (u : �
           let w = arrives k u (standing trace schedule held p) (omega arith) (omega arith) in
           sym (w ∙ rw (← q, e))
 
-      abbrev next : (at n : ℕ) → Place
-      next at n = record { t = u; at = at; n = n; from = p .from + 10 * p .fetches; fetches = 0; bundles = p .bundles }
+      abbrev next : (rest : Rest) (n : ℕ) → Place
+      next rest n = record { t = u; rest = rest; n = n; from = p .from + 10 * p .fetches; fetches = 0; bundles = p .bundles }
 
-      pub opens : (at n : ℕ) → r ≡ Open at n → on (standing trace schedule after (next at n)) ≡ arrived k u (standing trace schedule held p)
-      opens at n e =
+      pub opens : (rest : Rest) (n : ℕ) → r ≡ Open rest n → on (standing trace schedule after (next rest n)) ≡ arrived k u (standing trace schedule held p)
+      opens rest n e =
           let d = f .counted in
           let w = arrives k u (standing trace schedule held p) (omega arith) (omega arith) in
           sym (w ∙ rw (← q, e, append-nil (take n after), ne-eqb u (p .t) (omega arith), and-false (ltb 0 (p .fetches))))
 
-      pub opens-sound : (at n : ℕ) → r ≡ Open at n → Cursor trace k (p .at) r → SoundAt k requests trace schedule (p .from + 10 * p .fetches) (next at n)
-      opens-sound at n e c =
+      pub opens-sound : (rest : Rest) (n : ℕ) → r ≡ Open rest n → Cursor trace k (p .rest) r → SoundAt k requests trace schedule (p .from + 10 * p .fetches) (next rest n)
+      opens-sound rest n e c =
           let d = f .counted in
-          let m : Moved trace k (p .at) at n = rw e at c in
+          let m : Moved trace k (p .rest) rest n = rw e at c in
           let w = rw e at q in
-          let size = closing-length k (u - p .t) (requestsFrom trace (p .at) .held) _ _ _ (omega arith) (sym w) in
+          let size = closing-length k (u - p .t) (requestsLeft trace (p .rest) .held) _ _ _ (omega arith) (sym w) in
           let b = f .behind in
           let i = f .inside in
           record {
@@ -133,7 +134,7 @@ module _ (k requests : ℕ) (trace schedule held : List ℕ) (p : Place) (f : So
 
   module _ (count next : ℕ) where
     abbrev evPlace : Place
-    evPlace = record { t = p .t; at = p .at; n = p .n - count; from = next; fetches = 0; bundles = p .bundles + 1 }
+    evPlace = record { t = p .t; rest = p .rest; n = p .n - count; from = next; fetches = 0; bundles = p .bundles + 1 }
 
     pub ev-done : (pages after : List ℕ) → p .fetches ≤ 0 → true ≡ heldInTurn pages (take (p .n) held)
         → take (p .n - count) after ≡ eraseAll pages (take (p .n) held)
@@ -166,7 +167,7 @@ module _ (k requests : ℕ) (trace schedule held : List ℕ) (p : Place) (f : So
   pf-fetched page e = rw (mem-append-r page (take (p .n) held) (fetchedPages schedule (p .from) (p .fetches)) (sym e))
 
   abbrev pfPlace : Place
-  pfPlace = record { t = p .t; at = p .at; n = p .n; from = p .from; fetches = p .fetches + 1; bundles = p .bundles }
+  pfPlace = record { t = p .t; rest = p .rest; n = p .n; from = p .from; fetches = p .fetches + 1; bundles = p .bundles }
 
   pub pf-done : (page : ℕ) → false ≡ mem page (take (p .n) held) → false ≡ mem page (fetchedPages schedule (p .from) (p .fetches))
       → page ≡ num32 (drop (p .from + 10 * p .fetches + 6) schedule)

@@ -3,7 +3,6 @@ pub mod FetchLaws
 pub mod ClosingLaws
 pub mod EntryLaws
 pub mod ManyLaws
-pub mod ReadLaws
 pub mod RunLaws
 pub mod FileLaws
 pub mod SignedLaws

@@ -17,7 +17,7 @@ use Rattle.repeats.proofs.BitLaws.{all-more, length-marked, unmarked}
 use Rattle.paging.specs.Schedule.{pf}
 use Rattle.wire.specs.Numbers.{num32}
 use Rattle.reading.specs.Answers.{scheduleAnswer}
-use Rattle.reading.specs.Files.{requestsFrom, entriesFrom, before}
+use Rattle.reading.specs.Files.{entriesFrom, before}
 use Rattle.reading.specs.Reading.{readSchedule}
 use Rattle.reading.specs.Reading as reading
 use Rattle.reading.specs.declared.ScheduleRecord.{ScheduleRecord}
@@ -25,6 +25,7 @@ use Rattle.reading.specs.declared.ScheduleRecord.the-variants as recorded
 use Rattle.reading.proofs.Facts.{schedule-says, PfAt}
 use Rattle.reading.proofs.Walk.{entries-fetch}
 use Rattle.judging.specs.Answer.{refused}
+use Rattle.traces.specs.Cursor.{requestsLeft}
 use Rattle.judging.specs.Judging.{Standing, Step, on, stop, Closed, closed, overfull, closing, opened, acted, andThen, stepped}
 use Rattle.judging.proofs.Exact.{closing-length}
 use Rattle.judge.specs.declared.entries.Place.{Place}
@@ -87,7 +88,7 @@ module _ (a : ℕ) (schedule held : List ℕ) (p : Place) (page : ℕ) where
     pub ahead-fact : PfAt schedule here (p .t) page (here + 10)
     ahead-fact = schedule-says a schedule here (reading.fetch (p .t) page (here + 10)) e
 
-    module _ (k : ℕ) (trace : List ℕ) (some : 0 < length (requestsFrom trace (p .at) .held)) where
+    module _ (k : ℕ) (trace : List ℕ) (some : 0 < length (requestsLeft trace (p .rest) .held)) where
       acts-here : stepped k (pf (p .t) page) (standing trace schedule held p) ≡ acted (pf (p .t) page) (standing trace schedule held p)
       acts-here = rw (← stays k (p .t) (standing trace schedule held p) refl (omega arith))
 
@@ -118,7 +119,7 @@ pub record Reads (a : ℕ) (schedule held : List ℕ) (p : Place) (fetches : ℕ
   pub inside : p .from + 10 * fetches ≤ length schedule
   pub size : length marks ≡ words
   pub all : AllMarked marks (fetchedPages schedule (p .from) fetches)
-  pub answer : (k : ℕ) → (trace : List ℕ) → 0 < length (requestsFrom trace (p .at) .held)
+  pub answer : (k : ℕ) → (trace : List ℕ) → 0 < length (requestsLeft trace (p .rest) .held)
       → placeAnswer k a trace schedule held (fetching p fetches) ≡ placeAnswer k a trace schedule held p
 
 module _ (a : ℕ) (schedule held : List ℕ) (p : Place) where

@@ -8,7 +8,7 @@ use borrow.Author.Tests.{ne-eqb}
 use Rattle.paging.specs.Schedule.{Entry, ev, pf}
 use Rattle.wire.specs.Numbers.{nums32}
 use Rattle.reading.specs.Answers.{scheduleAnswer}
-use Rattle.reading.specs.Files.{requestsFrom, entriesFrom, before}
+use Rattle.reading.specs.Files.{entriesFrom, before}
 use Rattle.reading.specs.Reading.{readSchedule}
 use Rattle.reading.specs.Reading as reading
 use Rattle.reading.specs.declared.ScheduleRecord.{ScheduleRecord}
@@ -16,6 +16,8 @@ use Rattle.reading.specs.declared.ScheduleRecord.the-variants as recorded
 use Rattle.reading.proofs.Facts.{schedule-says, EvAt, PfAt}
 use Rattle.reading.proofs.Walk.{entries-refused, entries-ended, entries-bundle, entries-fetch}
 use Rattle.judging.specs.Answer.{Answer, cost, refused}
+use Rattle.traces.specs.Cursor.{requestsLeft}
+use Rattle.traces.specs.declared.cursor.Rest.{Rest}
 use Rattle.judging.specs.Judging.{closing, stepped, ended}
 use Rattle.judge.specs.declared.closing.Closing as closings
 use Rattle.judge.specs.declared.closing.Closing.the-variants.{Open, Overfull}
@@ -40,23 +42,23 @@ module _ (k requests : ℕ) (trace schedule held : List ℕ) (p : Place) (f : So
   pub none-left : p .t ≡ requests → cost (p .bundles) ≡ ended k 0 (standing trace schedule held p)
   none-left e =
       let d = f .counted in
-      let none : length (requestsFrom trace (p .at) .held) ≡ 0 = omega arith in
+      let none : length (requestsLeft trace (p .rest) .held) ≡ 0 = omega arith in
       rw none
 
   module _ (r : closings.Closing) (after : List ℕ)
-      (q : closingOf trace after r ≡ closing k (requests - p .t) (requestsFrom trace (p .at) .held) (take (p .n) held ++ fetchedPages schedule (p .from) (p .fetches)))
+      (q : closingOf trace after r ≡ closing k (requests - p .t) (requestsLeft trace (p .rest) .held) (take (p .n) held ++ fetchedPages schedule (p .from) (p .fetches)))
     where
-      all : closingOf trace after r ≡ closing k (length (requestsFrom trace (p .at) .held)) (requestsFrom trace (p .at) .held) (take (p .n) held ++ fetchedPages schedule (p .from) (p .fetches))
+      all : closingOf trace after r ≡ closing k (length (requestsLeft trace (p .rest) .held)) (requestsLeft trace (p .rest) .held) (take (p .n) held ++ fetchedPages schedule (p .from) (p .fetches))
       all =
           let d = f .counted in
-          let size : requests - p .t ≡ length (requestsFrom trace (p .at) .held) = omega arith in
+          let size : requests - p .t ≡ length (requestsLeft trace (p .rest) .held) = omega arith in
           rw size at q
 
       pub left-over : r ≡ Overfull → refused 7 ≡ ended k 0 (standing trace schedule held p)
       left-over e = rw (← all, e)
 
-      pub left-closed : (at n : ℕ) → r ≡ Open at n → cost (p .bundles) ≡ ended k 0 (standing trace schedule held p)
-      left-closed at n e = rw (← all, e)
+      pub left-closed : (rest : Rest) (n : ℕ) → r ≡ Open rest n → cost (p .bundles) ≡ ended k 0 (standing trace schedule held p)
+      left-closed rest n e = rw (← all, e)
 
 -- One record
 

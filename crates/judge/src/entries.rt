@@ -11,12 +11,13 @@ use crate::buffer::has;
 use crate::closing::Closing;
 use crate::closing::close_open;
 use crate::fetches::fetched;
+use traces::cursor::Rest;
 
-// Where the judge stands between two records: the open request t and the offset of its record in the trace; the number n of
-// pages held after the EVs at t; the PFs at t, from an offset of the schedule on, which end where the next record starts; the cost.
+// Where the judge stands between two records: the open request t and what is left of the trace from it on; the number n of pages held after the
+// EVs at t; the PFs at t, from an offset of the schedule on, which end where the next record starts; the cost.
 pub(crate) struct Place {
     pub t: usize,
-    pub at: usize,
+    pub rest: Rest,
     pub n: usize,
     pub from: usize,
     pub fetches: usize,
@@ -57,7 +58,7 @@ fn arrive(
     let bundles = place.bundles;
     match close_open(
         trace,
-        place.at,
+        place.rest,
         u - t,
         held,
         place.n,
@@ -67,9 +68,9 @@ fn arrive(
         fetches,
     ) {
         Closing::Overfull => Step::Stop(7),
-        Closing::Open { at, n } => Step::On(Place {
+        Closing::Open { rest, n } => Step::On(Place {
             t: u,
-            at,
+            rest,
             n,
             from: from + 10 * fetches,
             fetches: 0,
@@ -101,13 +102,14 @@ pub(crate) fn bundle(
         Step::Stop(number) => Step::Stop(number),
         Step::On(here) => {
             let n = here.n;
+            let rest = here.rest;
             if here.fetches > 0 {
                 return Step::Stop(6);
             }
             if evict(held, n, schedule, pages, count) {
                 Step::On(Place {
                     t: here.t,
-                    at: here.at,
+                    rest,
                     n: n - count,
                     from: next,
                     fetches: 0,
@@ -143,6 +145,7 @@ pub(crate) fn fetch(
             let from = here.from;
             let fetches = here.fetches;
             let n = here.n;
+            let rest = here.rest;
             if has(held, n, page) {
                 return Step::Stop(6);
             }
@@ -151,7 +154,7 @@ pub(crate) fn fetch(
             }
             Step::On(Place {
                 t: here.t,
-                at: here.at,
+                rest,
                 n,
                 from,
                 fetches: fetches + 1,

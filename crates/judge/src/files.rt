@@ -1,71 +1,25 @@
 // Both files: the trace first, its KA and its requests; then the schedule's KA and its records.
-ghost use Prim.Native.Nat.{_≤_, _<_};
+ghost use Prim.Native.Nat.{_≤_};
 ghost use mathlib.Core.Path.{_≡_};
 ghost use lib.ListN.{length};
 ghost use Rattle.paging.specs.Refusals.{largestK};
 ghost use Rattle.reading.specs.Files.{requestsFrom};
 ghost use Rattle.judging.specs.Answer.{answerNumber};
 ghost use Rattle.judging.specs.Files.{judged, scheduleJudged};
-ghost use Rattle.judge.specs.inner.Verdicts.{verdictAnswer, countedIn, counts, AtMost};
+ghost use Rattle.judge.specs.inner.Verdicts.{verdictAnswer, AtMost};
 use crate::entries::Place;
 use crate::run::Verdict;
 use crate::run::run;
 use paging::Sizes;
 use reading::ScheduleRecord;
-use reading::TraceRecord;
 use reading::schedule_within;
-use reading::trace as trace_record;
+use records::length;
+use traces::cursor::Rest;
 
-// How many requests a trace has, or its refusal.
-pub(crate) enum Counted {
-    Requests(usize),
-    Refused(u32),
-}
-
-// The requests from an offset on, behind the KA.
-fn count(trace: &[u8], at: usize) -> Counted
-    requires { ⌜ 0 < at ⌝ }
-    ensures { λ r. ⌜ countedIn r ≡ counts (requestsFrom (now (trace .entry)) at) ⌝ }
-{
-    let mut from = at;
-    let mut n = 0;
-    loop {
-        match trace_record(trace, from) {
-            TraceRecord::Request { page: _, next } => {
-                if n == Sizes::TRACE_MAX {
-                    return Counted::Refused(3);
-                }
-                n += 1;
-                from = next;
-            }
-            TraceRecord::End => {
-                return Counted::Requests(n);
-            }
-            TraceRecord::Refused(number) => {
-                return Counted::Refused(number);
-            }
-            TraceRecord::Sizes {
-                k: _,
-                a: _,
-                next: _,
-            } => {
-                return Counted::Refused(4);
-            }
-        }
-    }
-}
-
-// A schedule of the trace whose requests stand from an offset on.
-fn schedule_answer(
-    trace: &[u8],
-    at: usize,
-    requests: usize,
-    schedule: &[u8],
-    k: u32,
-    a: u32,
-) -> Verdict
-    requires { ⌜ (0 < at) × (requestsFrom (now trace) at .damage ≡ 0) × (requests ≡ length (requestsFrom (now trace) at .held)) × (k ≤ largestK) ⌝ }
-    ensures { λ r. ⌜ (verdictAnswer r ≡ scheduleJudged k a (requestsFrom (now (trace .entry)) at .held) (now (schedule .entry))) × AtMost (length (now (schedule .entry))) r ⌝ }
+// A schedule of a trace that was found good, with so many requests behind its KA.
+fn schedule_answer(trace: &[u8], requests: usize, schedule: &[u8], k: u32, a: u32) -> Verdict
+    requires { ⌜ (requestsFrom (now trace) 6 .damage ≡ 0) × (requests ≡ length (requestsFrom (now trace) 6 .held)) × (k ≤ largestK) ⌝ }
+    ensures { λ r. ⌜ (verdictAnswer r ≡ scheduleJudged k a (requestsFrom (now (trace .entry)) 6 .held) (now (schedule .entry))) × AtMost (length (now (schedule .entry))) r ⌝ }
 {
     match schedule_within(schedule, 0, a) {
         ScheduleRecord::Sizes {
@@ -80,9 +34,14 @@ fn schedule_answer(
                 return Verdict::Refused(6);
             }
             let mut held = [0u32; Sizes::K_MAX as usize];
+            let rest = Rest {
+                page: 0,
+                times: 0,
+                from: length::KA,
+            };
             let first = Place {
                 t: 0,
-                at,
+                rest,
                 n: 0,
                 from: next,
                 fetches: 0,
@@ -110,15 +69,11 @@ fn schedule_answer(
 pub(crate) fn answer(trace: &[u8], schedule: &[u8]) -> Verdict
     ensures { λ r. ⌜ (verdictAnswer r ≡ judged (now (trace .entry)) (now (schedule .entry))) × AtMost (length (now (schedule .entry))) r ⌝ }
 {
-    match trace_record(trace, 0) {
-        TraceRecord::Sizes { k, a, next } => match count(trace, next) {
-            Counted::Refused(number) => Verdict::Refused(number),
-            Counted::Requests(requests) => schedule_answer(trace, next, requests, schedule, k, a),
-        },
-        TraceRecord::Refused(number) => Verdict::Refused(number),
-        TraceRecord::End => Verdict::Refused(5),
-        TraceRecord::Request { page: _, next: _ } => Verdict::Refused(4),
+    let told = traces::count(trace, Sizes::TRACE_MAX);
+    if told.refusal != 0 {
+        return Verdict::Refused(told.refusal);
     }
+    schedule_answer(trace, told.requests, schedule, told.k, told.a)
 }
 
 // The number that the caller receives.

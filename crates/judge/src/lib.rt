@@ -1,7 +1,7 @@
 // The judge of schedules (document 01): the bytes of a trace file and of a schedule file in, the cost or a refusal out.
 //   buffer    the pages held, in the first places of a list
 //   fetches   the PFs of the open request, read off the schedule's file
-//   closing   closing requests, with a cursor into the trace
+//   closing   closing requests, with a cursor into the trace that stands inside a run too
 //   entries   one record of the schedule: the way to its request, then what it does there
 //   many      more PFs at one request than a buffer holds
 //   run       all records of the schedule

@@ -100,6 +100,7 @@ fn read_on(schedule: &[u8], held: &[u32], a: u32, place: Place, marks: &mut [u32
     let t = place.t;
     let n = place.n;
     let from = place.from;
+    let rest = place.rest;
     let mut fetches = place.fetches;
     loop {
         match look_ahead(schedule, from + 10 * fetches, a, t) {
@@ -113,7 +114,7 @@ fn read_on(schedule: &[u8], held: &[u32], a: u32, place: Place, marks: &mut [u32
             Ahead::Other => {
                 return Step::On(Place {
                     t,
-                    at: place.at,
+                    rest,
                     n,
                     from,
                     fetches,

@@ -45,7 +45,7 @@ fn finish(
     }
     match close_open(
         trace,
-        place.at,
+        place.rest,
         requests - t,
         held,
         place.n,
@@ -55,7 +55,7 @@ fn finish(
         place.fetches,
     ) {
         Closing::Overfull => Verdict::Refused(7),
-        Closing::Open { at: _, n: _ } => Verdict::Cost(bundles),
+        Closing::Open { rest: _, n: _ } => Verdict::Cost(bundles),
     }
 }
 

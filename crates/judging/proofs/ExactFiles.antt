@@ -1,4 +1,4 @@
--- Exactness over files: the judge answers the cost c exactly if the two files are, byte for byte, a trace and a legal schedule of it
+-- Exactness over files: the judge answers the cost c exactly if the two files are, byte for byte, a file of a trace and a legal schedule of it
 -- with the cost c.
 use Prim.Native.Nat.{ℕ, zero, suc, _≤_}
 use native.Mathlib.Omega.{arith}
@@ -6,26 +6,27 @@ use mathlib.Core.Bool.{true, false}
 use mathlib.Core.List.{List, [], _∷_}
 use mathlib.Core.Logic.{_↔_}
 use mathlib.Core.Path.{_≡_, refl, sym, ap, _∙_}
-use lib.Dec.{eqb, leb, ltb}
+use lib.Dec.{eqb, leb}
 use lib.ListN.{length, drop}
-use borrow.Author.Tests.{eq-eqb, le-ltb}
+use borrow.Author.Tests.{eq-eqb}
 use Rattle.lists.specs.Choice.{_and_}
 use Rattle.lists.proofs.Choice.{cases, tests, and-l, and-r, and-i}
 use Rattle.paging.specs.Refusals.{SizesRight, longestTrace}
 use Rattle.paging.specs.Schedule.{Entry, ev, pf, serves, entriesCost}
-use Rattle.paging.proofs.Refusals.{sizes-right}
 use Rattle.wire.specs.Numbers.{Bytes}
 use Rattle.wire.proofs.Numbers.{length-nums32}
 use Rattle.records.specs.Bytes.{scheduleBytes, AllWritable}
 use Rattle.reading.specs.Files.{File, walk, onward, entriesIn, requestsFrom, entriesFrom}
-use Rattle.reading.specs.Reading.{readTrace, readSchedule}
+use Rattle.reading.specs.Reading.{readSchedule}
 use Rattle.reading.specs.Reading as reading
 use Rattle.reading.proofs.Exact.{trace-exact, schedule-exact}
-use Rattle.reading.proofs.Facts.{trace-says, schedule-facts, ScheduleFacts}
-use Rattle.reading.proofs.RoundTrip.{trace-reads-back, schedule-reads-back}
+use Rattle.reading.proofs.Facts.{schedule-facts, ScheduleFacts}
+use Rattle.reading.proofs.RoundTrip.{schedule-reads-back}
 use Rattle.reading.proofs.Walk.{requests-sizes, entries-sizes}
+use Rattle.traces.specs.Traces.{TraceFile, whole, damaged, traceFile}
+use Rattle.traces.proofs.Whole.{WholeTrace, file-says, file-of-a-trace}
 use Rattle.judging.specs.Answer.{Answer, cost, refused}
-use Rattle.judging.specs.Files.{behindKa, behindRequests, scheduleJudged, judged}
+use Rattle.judging.specs.Files.{behindKa, behindTrace, scheduleJudged, judged}
 use Rattle.judging.specs.Judging.{judgedFrom, standsFirst}
 use Rattle.judging.specs.LegalFiles.{LegalFiles}
 use Rattle.judging.proofs.Exact.{sized, sizedEntry, no-cost, no-damage, exact}
@@ -38,7 +39,7 @@ module _ (bound : ℕ) (s : List ℕ) where
   sized-onward at (reading.refused n) go f h = refl
   sized-onward at reading.ended go f h = refl
   sized-onward at (reading.sizes k a next) go f h = h next
-  sized-onward at (reading.request page next) go f h = absurd f
+  sized-onward at (reading.request page times next) go f h = absurd f
   sized-onward at (reading.bundle t n from next) go f h =
       let size = length-nums32 n (drop from s) in
       let low = f .some in
@@ -70,18 +71,14 @@ behind-ka : (x : reading.Answer) (go : ℕ → ℕ → ℕ → Answer) (c : ℕ)
 behind-ka (reading.refused n) go c e = absurd (no-cost e)
 behind-ka (reading.sizes k a next) go c e = (k, a, next, refl, e)
 behind-ka reading.ended go c e = absurd (no-cost e)
-behind-ka (reading.request page next) go c e = absurd (no-cost e)
+behind-ka (reading.request page times next) go c e = absurd (no-cost e)
 behind-ka (reading.bundle t n from next) go c e = absurd (no-cost e)
 behind-ka (reading.fetch t page next) go c e = absurd (no-cost e)
 
-behind-requests : (file : File ℕ) (go : List ℕ → Answer) (c : ℕ) → behindRequests file go ≡ cost c
-    → (length (file .held) ≤ 65536) × (file .damage ≡ 0) × (go (file .held) ≡ cost c)
-behind-requests file go c e =
-    cases (ltb longestTrace (length (file .held)))
-    (λ m. let w : refused 3 ≡ cost c = rw m at e in absurd (no-cost w))
-    (λ m. cases (eqb (file .damage) 0)
-    (λ d. (omega tests, omega tests, rw (m, d) at e))
-    (λ d. let w : refused (file .damage) ≡ cost c = rw (m, d) at e in absurd (no-cost w)))
+behind-trace : (x : TraceFile) (go : ℕ → ℕ → List ℕ → Answer) (c : ℕ) → behindTrace x go ≡ cost c
+    → (k a : ℕ) × (pages : List ℕ) × (x ≡ whole k a pages) × (go k a pages ≡ cost c)
+behind-trace (whole k a pages) go c e = (k, a, pages, refl, e)
+behind-trace (damaged n) go c e = absurd (no-cost e)
 
 -- The two halves
 
@@ -131,24 +128,22 @@ module _ (trace schedule : List ℕ) (c : ℕ) where
   pub sound : Bytes trace → Bytes schedule → judged trace schedule ≡ cost c → LegalFiles trace schedule c
   unfolding judged
   sound bt bs e =
-      let x = behind-ka (readTrace trace 0) _ c e in
+      let x = behind-trace (traceFile longestTrace trace) (λ k a pages. scheduleJudged k a pages schedule) c e in
       let k = x .0 in
       let a = x .1 in
-      let next = x .2 in
-      let y = behind-requests (requestsFrom trace next) (λ pages. scheduleJudged k a pages schedule) c (x .4) in
-      let right = sizes-right k a (trace-says trace 0 (reading.sizes k a next) (x .3) .right) in
-      let same = requests-sizes trace 0 k a next (x .3) in
-      let undamaged : requestsFrom trace 0 .damage ≡ 0 = ap (λ (f : File ℕ). f .damage) same ∙ y .1 in
-      let bytes = trace-exact trace bt k a next (x .3) undamaged in
-      let d = schedule-sound k a (requestsFrom trace next .held) schedule c bs (y .2) in
+      let pages = x .2 in
+      let w : WholeTrace longestTrace trace k a pages = file-says longestTrace trace (whole k a pages) (x .3) in
+      let read : requestsFrom trace 0 ≡ record { held = pages; damage = 0 } = requests-sizes trace 0 k a 6 (w .starts) ∙ w .read in
+      let bytes = trace-exact trace bt k a 6 (w .starts) (ap (λ (f : File ℕ). f .damage) read) in
+      let d = schedule-sound k a pages schedule c bs (x .4) in
       record {
         k = k;
         a = a;
-        pages = requestsFrom trace next .held;
+        pages = pages;
         entries = d .entries;
-        sizes = right;
-        few = y .0;
-        trace-is = rw same at bytes;
+        sizes = w .right;
+        few = w .few;
+        trace-is = rw read at bytes;
         schedule-is = d .bytes;
         legal = d .serving;
         costs = d .costing;
@@ -159,12 +154,8 @@ module _ (trace schedule : List ℕ) (c : ℕ) where
   complete f =
       let k = f .k in
       let a = f .a in
-      let r = trace-reads-back k a (f .pages) (f .sizes) in
-      let first : readTrace trace 0 ≡ reading.sizes k a 6 = rw (f .trace-is) (r .0) in
-      let rest : requestsFrom trace 6 ≡ record { held = f .pages; damage = 0 } = sym (requests-sizes trace 0 k a 6 first) ∙ rw (f .trace-is) (r .1) in
-      let few : ltb longestTrace (length (f .pages)) ≡ false = le-ltb 65536 (length (f .pages)) (f .few) in
       let j = schedule-complete k a (f .pages) schedule c (f .entries) (f .sizes) (f .schedule-is) (f .legal) (f .costs) in
-      rw (first, rest, few) j
+      rw (file-of-a-trace longestTrace k a (f .pages) trace (f .sizes) (f .trace-is) (f .few)) j
 
   -- the judge answers the cost c exactly if the files are a trace and a legal schedule of it that costs c
   pub judge-exact : Bytes trace → Bytes schedule → (judged trace schedule ≡ cost c) ↔ LegalFiles trace schedule c

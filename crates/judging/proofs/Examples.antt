@@ -9,10 +9,11 @@ use lib.IntN.{ℤ, pos, negsuc}
 use Rattle.lists.specs.Choice.{_and_, _or_}
 use Rattle.paging.specs.Refusals.{sizesRefusal}
 use Rattle.paging.specs.Schedule.{Entry, ev, pf}
-use Rattle.records.specs.Bytes.{kaBytes, rqBytes, traceBytes, scheduleBytes}
+use Rattle.records.specs.Bytes.{TraceEntry, rq, rr, kaBytes, rqBytes, rrBytes, traceBytes, singles, scheduleBytes}
 use Rattle.records.specs.Marks.{markOf, markAt}
 use Rattle.reading.specs.Files.{requestsFrom, entriesFrom}
-use Rattle.reading.specs.Reading.{kaRead, rqRead, countRefused, evRead, pfRead, entryRead, readTrace, readSchedule}
+use Rattle.reading.specs.Reading.{kaRead, rqRead, rrRead, requestRead, countRefused, evRead, pfRead, entryRead, readTrace, readSchedule}
+use Rattle.traces.specs.Traces.{traceFile}
 use Rattle.judging.specs.Answer.{answerNumber}
 use Rattle.judging.specs.Files.{judged}
 
@@ -34,11 +35,15 @@ every (row ∷ rows) = same (answerNumber (judged (row .trace) (row .schedule)))
 -- a row of the eight-request shift, with k 3 and a 2: the entries, then some bytes behind them
 abbrev shift : List Entry → List ℕ → ℤ → Row
 shift entries behind answer =
-    record { trace = traceBytes 3 2 (1 ∷ 2 ∷ 3 ∷ 4 ∷ 2 ∷ 5 ∷ 6 ∷ 1 ∷ []); schedule = scheduleBytes 3 2 entries ++ behind; answer = answer }
+    record { trace = traceBytes 3 2 (singles (1 ∷ 2 ∷ 3 ∷ 4 ∷ 2 ∷ 5 ∷ 6 ∷ 1 ∷ [])); schedule = scheduleBytes 3 2 entries ++ behind; answer = answer }
 
 -- a row of any trace
 abbrev row : (k a : ℕ) → List ℕ → List Entry → ℤ → Row
-row k a pages entries answer = record { trace = traceBytes k a pages; schedule = scheduleBytes k a entries; answer = answer }
+row k a pages entries answer = record { trace = traceBytes k a (singles pages); schedule = scheduleBytes k a entries; answer = answer }
+
+-- a row of records with runs, some bytes behind them, and a schedule
+abbrev runs : (k a : ℕ) → List TraceEntry → (behind : List ℕ) → List Entry → ℤ → Row
+runs k a entries behind schedule answer = record { trace = traceBytes k a entries ++ behind; schedule = scheduleBytes k a schedule; answer = answer }
 
 abbrev table : List Row
 table =
@@ -98,8 +103,25 @@ table =
     -- no request: KA alone costs 0, an entry of right form is 6
     ∷ row 2 1 [] [] (pos 0)
     ∷ row 2 1 [] (pf 0 1 ∷ []) (negsuc 5)
+    -- runs (document 02, request 03): 1 1 1 2 3, where t counts single requests: an EV inside a run, of its own page, which is loaded again
+    ∷ runs 2 1 (rr 1 3 ∷ rq 2 ∷ rq 3 ∷ []) [] (ev 4 (1 ∷ []) ∷ []) (pos 1)
+    ∷ runs 2 1 (rr 1 3 ∷ rq 2 ∷ rq 3 ∷ []) [] (ev 1 (1 ∷ []) ∷ ev 4 (2 ∷ []) ∷ []) (pos 2)
+    ∷ runs 2 1 (rr 1 3 ∷ rq 2 ∷ rq 3 ∷ []) [] [] (negsuc 6)
+    ∷ runs 2 1 (rr 1 3 ∷ rq 2 ∷ rq 3 ∷ []) [] (ev 5 (1 ∷ []) ∷ []) (negsuc 5)
+    -- a PF inside a run; a run of one; two runs of one page
+    ∷ runs 2 1 (rr 1 3 ∷ rq 2 ∷ []) [] (pf 2 2 ∷ []) (pos 0)
+    ∷ runs 1 1 (rr 1 1 ∷ rr 1 2 ∷ rr 2 1 ∷ []) [] (ev 3 (1 ∷ []) ∷ []) (pos 1)
+    -- a run of no request is 13; where it is cut, 5 comes before
+    ∷ runs 2 1 (rq 1 ∷ []) (rrBytes 1 0) [] (negsuc 12)
+    ∷ runs 2 1 (rq 1 ∷ []) (82 ∷ 82 ∷ 1 ∷ 0 ∷ 0 ∷ 0 ∷ 0 ∷ []) [] (negsuc 4)
+    ∷ runs 2 1 (rq 1 ∷ []) (82 ∷ 82 ∷ []) [] (negsuc 4)
+    -- a run in front of the KA, whole or cut, and one in a schedule are 4
+    ∷ record { trace = rrBytes 1 3; schedule = kaBytes 2 1; answer = negsuc 3 }
+    ∷ record { trace = 82 ∷ 82 ∷ []; schedule = kaBytes 2 1; answer = negsuc 3 }
+    ∷ record { trace = traceBytes 2 1 (rr 1 3 ∷ []); schedule = kaBytes 2 1 ++ rrBytes 1 3; answer = negsuc 3 }
+    ∷ record { trace = traceBytes 2 1 (rr 1 3 ∷ []); schedule = kaBytes 2 1 ++ (82 ∷ 82 ∷ []); answer = negsuc 3 }
     ∷ []
 
 table-holds : every table ≡ true
-unfolding _and_ _or_ sizesRefusal markOf markAt kaRead rqRead countRefused evRead pfRead entryRead readTrace readSchedule requestsFrom entriesFrom judged
+unfolding _and_ _or_ sizesRefusal markOf markAt kaRead rqRead rrRead requestRead countRefused evRead pfRead entryRead readTrace readSchedule requestsFrom entriesFrom traceFile judged
 table-holds = refl

@@ -1,9 +1,10 @@
--- The number that the caller receives (document 01: "the cost, or the refusal number made negative"): a refusal's is from 1 to 7, so a number at
--- or above zero is a cost, and one below zero a refusal.
+-- The number that the caller receives (document 01: "the cost, or the refusal number made negative"): a refusal's is from 1 to 7 or 13 (document 02, request
+-- 03), so a number at or above zero is a cost, and one below zero a refusal.
 use Prim.Native.Nat.{ℕ, zero, suc, _+_, _-_, _≤_}
 use native.Mathlib.Omega.{arith}
 use mathlib.Core.Bool.{Bool, true, false, not}
 use mathlib.Core.List.{List, [], _∷_}
+use mathlib.Core.Logic.{_⊎_, inl, inr}
 use mathlib.Core.Path.{_≡_, refl, ap, subst}
 use lib.Dec.{eqb, leb, ltb}
 use lib.IntN.{ℤ, pos, negsuc}
@@ -14,19 +15,20 @@ use Rattle.lists.specs.Pages.{mem}
 use Rattle.lists.proofs.Choice.{by-test}
 use Rattle.paging.specs.Refusals.{longestTrace}
 use Rattle.paging.specs.Schedule.{Entry, ev, pf, timeOf, heldInTurn}
-use Rattle.reading.specs.Files.{File, requestsFrom, entriesFrom}
-use Rattle.reading.specs.Reading.{readTrace, readSchedule}
+use Rattle.reading.specs.Files.{entriesFrom}
+use Rattle.reading.specs.Reading.{readSchedule}
 use Rattle.reading.specs.Reading as reading
-use Rattle.reading.proofs.Facts.{TraceFacts, ScheduleFacts, trace-facts, schedule-facts, trace-says, schedule-says}
-use Rattle.reading.proofs.Numbers.{Low, trace-low, schedule-low, requests-low, entries-low}
+use Rattle.reading.proofs.Facts.{ScheduleFacts, schedule-facts, schedule-says}
+use Rattle.reading.proofs.Numbers.{Among, ScheduleNumber, TraceNumber, schedule-low, entries-low}
+use Rattle.traces.proofs.Whole.{each-file}
 use Rattle.judging.specs.Answer.{Answer, cost, refused, answerNumber}
-use Rattle.judging.specs.Files.{behindKa, behindRequests, scheduleJudged, judged}
+use Rattle.judging.specs.Files.{behindKa, behindTrace, scheduleJudged, judged}
 use Rattle.judging.specs.Judging.{Standing, Step, on, stop, Closed, closed, overfull, closing, opened, acted, andThen, arrived, stepped, finished, ended, answered, judgedFrom}
 use Rattle.judging.specs.Judging.{standsFirst}
 
 -- a refusal's number is one of the judge's
-abbrev Numbered : ℕ → Type 0
-Numbered n = (1 ≤ n) × (n ≤ 7)
+abbrev pub Numbered : ℕ → Type 0
+Numbered n = (1 ≤ n) × ((n ≤ 7) ⊎ (n ≡ 13))
 
 abbrev pub Told : Answer → Type 0
 Told (cost bundles) = Unit {0}
@@ -36,11 +38,21 @@ abbrev StepTold : Step → Type 0
 StepTold (on s) = Unit {0}
 StepTold (stop number) = Numbered number
 
+-- a number from 1 to 7
+up-to-7 : (n : ℕ) → (n ≡ 0 → ⊥) → n ≤ 7 → Numbered n
+up-to-7 n some few = (omega arith, inl few)
+
+four : Numbered 4
+four = (omega arith, inl (omega arith))
+
+five : Numbered 5
+five = (omega arith, inl (omega arith))
+
 six : Numbered 6
-six = (omega arith, omega arith)
+six = (omega arith, inl (omega arith))
 
 seven : Numbered 7
-seven = (omega arith, omega arith)
+seven = (omega arith, inl (omega arith))
 
 -- ---- the entries
 
@@ -74,7 +86,7 @@ module _ (k damage : ℕ) (low : damage ≤ 6) where
   ended-told s =
       by-test (λ b. Told (pick b (finished (s .bundles) (closing k (length (s .trace)) (s .trace) (s .held))) (refused damage))) (eqb damage 0)
       (λ e. finished-told (s .bundles) (closing k (length (s .trace)) (s .trace) (s .held)))
-      (λ e. let n = eqb-false damage 0 e in (omega arith, omega arith))
+      (λ e. up-to-7 damage (eqb-false damage 0 e) (omega arith))
 
   answered-told : (x : Step) (f : Standing → Answer) → StepTold x → ((s : Standing) → Told (f s)) → Told (answered x f)
   answered-told (on s) f t g = g s
@@ -93,7 +105,7 @@ abbrev StartTold : reading.Answer → Type 0
 StartTold (reading.refused number) = Numbered number
 StartTold reading.ended = Unit {0}
 StartTold (reading.sizes k a next) = Unit {0}
-StartTold (reading.request page next) = Unit {0}
+StartTold (reading.request page times next) = Unit {0}
 StartTold (reading.bundle t n from next) = Unit {0}
 StartTold (reading.fetch t page next) = Unit {0}
 
@@ -101,39 +113,18 @@ behind-told : (x : reading.Answer) (go : ℕ → ℕ → ℕ → Answer) → Sta
     → Told (behindKa x go)
 behind-told (reading.refused number) go t f = t
 behind-told (reading.sizes k a next) go t f = f k a next refl
-behind-told reading.ended go t f = (omega arith, omega arith)
-behind-told (reading.request page next) go t f = (omega arith, omega arith)
-behind-told (reading.bundle u n from next) go t f = (omega arith, omega arith)
-behind-told (reading.fetch u page next) go t f = (omega arith, omega arith)
+behind-told reading.ended go t f = five
+behind-told (reading.request page times next) go t f = four
+behind-told (reading.bundle u n from next) go t f = four
+behind-told (reading.fetch u page next) go t f = four
 
-trace-start : (s : List ℕ) (x : reading.Answer) → TraceFacts s 0 x → Low x → StartTold x
-trace-start s (reading.refused number) f l = (some number f, omega arith)
-  where
-    some : (n : ℕ) → (n ≡ 0 → ⊥) → 1 ≤ n
-    some n g = omega arith
-trace-start s reading.ended f l = tt
-trace-start s (reading.sizes k a next) f l = tt
-trace-start s (reading.request page next) f l = tt
-trace-start s (reading.bundle t n from next) f l = tt
-trace-start s (reading.fetch t page next) f l = tt
-
-schedule-start : (bound : ℕ) (s : List ℕ) (x : reading.Answer) → ScheduleFacts bound s 0 x → Low x → StartTold x
-schedule-start bound s (reading.refused number) f l = (some number f, omega arith)
-  where
-    some : (n : ℕ) → (n ≡ 0 → ⊥) → 1 ≤ n
-    some n g = omega arith
+schedule-start : (bound : ℕ) (s : List ℕ) (x : reading.Answer) → ScheduleFacts bound s 0 x → Among ScheduleNumber x → StartTold x
+schedule-start bound s (reading.refused number) f l = up-to-7 number f (omega arith)
 schedule-start bound s reading.ended f l = tt
 schedule-start bound s (reading.sizes k a next) f l = tt
-schedule-start bound s (reading.request page next) f l = tt
+schedule-start bound s (reading.request page times next) f l = tt
 schedule-start bound s (reading.bundle t n from next) f l = tt
 schedule-start bound s (reading.fetch t page next) f l = tt
-
-requests-told : (file : File ℕ) (go : List ℕ → Answer) → file .damage ≤ 6 → ((pages : List ℕ) → Told (go pages)) → Told (behindRequests file go)
-requests-told file go low f =
-    by-test (λ b. Told (pick b (refused 3) (pick (eqb (file .damage) 0) (go (file .held)) (refused (file .damage))))) (ltb longestTrace (length (file .held)))
-    (λ e. (omega arith, omega arith))
-    (λ e. by-test (λ b. Told (pick b (go (file .held)) (refused (file .damage)))) (eqb (file .damage) 0)
-    (λ z. f (file .held)) (λ z. let n = eqb-false (file .damage) 0 z in (omega arith, omega arith)))
 
 schedule-told : (k a : ℕ) (pages schedule : List ℕ) → Told (scheduleJudged k a pages schedule)
 schedule-told k a pages schedule =
@@ -146,20 +137,21 @@ schedule-told k a pages schedule =
     by-test (λ b. Told (pick b (judgedFrom k (file .damage) (file .held) (standsFirst pages)) (refused 6))) (eqb k′ k and eqb a′ a)
     (λ m. entries-told k (file .damage) (entries-low a schedule next (omega arith)) (file .held) (standsFirst pages)) (λ m. six))
 
+-- what damages a trace
+trace-number : (n : ℕ) → (n ≡ 0 → ⊥) → TraceNumber n → Numbered n
+trace-number n some (inl few) = up-to-7 n some (omega arith)
+trace-number n some (inr e) = (omega arith, inr e)
+
 told : (trace schedule : List ℕ) → Told (judged trace schedule)
 unfolding judged
 told trace schedule =
-    behind-told (readTrace trace 0) _ (trace-start trace (readTrace trace 0) (trace-facts trace 0) (trace-low trace 0 (omega arith)))
-    (λ k a next e.
-    let f = trace-says trace 0 (reading.sizes k a next) e in
-    let inside = f .inside in
-    let behind = f .behind in
-    requests-told (requestsFrom trace next) (λ pages. scheduleJudged k a pages schedule) (requests-low trace next (omega arith)) (λ pages. schedule-told k a pages schedule))
+    each-file longestTrace trace (λ x. Told (behindTrace x (λ k a pages. scheduleJudged k a pages schedule))) trace-number
+    (λ k a pages w. schedule-told k a pages schedule)
 
 -- ---- the theorems
 
--- a refusal's number is from 1 to 7
-pub refusals-are-numbered : (trace schedule : List ℕ) (number : ℕ) → judged trace schedule ≡ refused number → (1 ≤ number) × (number ≤ 7)
+-- a refusal's number is from 1 to 7, or 13
+pub refusals-are-numbered : (trace schedule : List ℕ) (number : ℕ) → judged trace schedule ≡ refused number → Numbered number
 refusals-are-numbered trace schedule number e = subst Told e (told trace schedule)
 
 cost-of : (x : Answer) (n : ℕ) → Told x → answerNumber x ≡ pos n → x ≡ cost n

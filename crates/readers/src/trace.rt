@@ -1,4 +1,4 @@
-// The trace reader. At offset 0 it expects KA, elsewhere RQ or the end.
+// The trace reader. At offset 0 it expects KA, elsewhere RQ, RR or the end.
 ghost use mathlib.Core.Path.{_≡_};
 ghost use Rattle.reading.specs.Answers.{traceAnswer};
 ghost use Rattle.reading.specs.Reading.{readTrace};

@@ -3,6 +3,7 @@ use Prim.Native.Nat.{ℕ, zero, suc, _+_, _*_, _<_, _≤_}
 use native.Mathlib.Omega.{arith}
 use mathlib.Core.Bool.{Bool, true, false}
 use mathlib.Core.List.{List}
+use mathlib.Core.Logic.{_⊎_, inl, inr}
 use mathlib.Core.Path.{_≡_, refl, sym, ap, subst}
 use lib.Dec.{eqb, ltb}
 use lib.ListN.{length, drop, length-drop}
@@ -12,8 +13,9 @@ use Rattle.lists.specs.Choice.{pick, _or_}
 use Rattle.paging.specs.Refusals.{sizesRefusal}
 use Rattle.wire.specs.Numbers.{num16, num32}
 use Rattle.records.specs.Bytes.{evLength}
-use Rattle.records.specs.Marks.{Mark, KA, RQ, EV, PF, bad, markOf, markAt, markKA, markRQ, markEV, markPF}
-use Rattle.reading.specs.Reading.{Answer, refused, ended, sizes, request, bundle, fetch, unless, kaRead, rqRead, evRead, pfRead, entryRead, countRefused, readTrace, readSchedule}
+use Rattle.records.specs.Marks.{Mark, KA, RQ, RR, EV, PF, bad, markOf, markAt, markKA, markRQ, markRR, markEV, markPF}
+use Rattle.reading.specs.Reading.{Answer, refused, ended, sizes, request, bundle, fetch, unless, kaRead, rqRead, rrRead, requestRead, evRead, pfRead, entryRead, countRefused}
+use Rattle.reading.specs.Reading.{readTrace, readSchedule}
 
 -- ---- the records as they stand in a file
 
@@ -26,12 +28,28 @@ pub record KaAt (s : List ℕ) (at k a next : ℕ) : Type 0 where
   pub a-is : a ≡ num16 (drop 4 s)
   pub right : sizesRefusal k a 0 ≡ 0
 
-pub record RqAt (s : List ℕ) (at page next : ℕ) : Type 0 where
-  pub start : 0 < at
+pub record RqAt (s : List ℕ) (at page times next : ℕ) : Type 0 where
   pub behind : next ≡ at + 6
   pub inside : at + 6 ≤ length s
   pub mark : num16 (drop at s) ≡ markRQ
   pub page-is : page ≡ num32 (drop (at + 2) s)
+  pub once : times ≡ 1
+
+pub record RrAt (s : List ℕ) (at page times next : ℕ) : Type 0 where
+  pub behind : next ≡ at + 8
+  pub inside : at + 8 ≤ length s
+  pub mark : num16 (drop at s) ≡ markRR
+  pub page-is : page ≡ num32 (drop (at + 2) s)
+  pub times-is : times ≡ num16 (drop (at + 6) s)
+
+-- one of the two, and what both have: it has at least one request and at most 8 bytes
+pub record RequestAt (s : List ℕ) (at page times next : ℕ) : Type 0 where
+  pub start : 0 < at
+  pub some : 0 < times
+  pub onward : at < next
+  pub near : next ≤ at + 8
+  pub inside : next ≤ length s
+  pub form : RqAt s at page times next ⊎ RrAt s at page times next
 
 pub record EvAt (bound : ℕ) (s : List ℕ) (at t n from next : ℕ) : Type 0 where
   pub start : 0 < at
@@ -63,7 +81,7 @@ abbrev pub TraceFacts : List ℕ → ℕ → Answer → Type 0
 TraceFacts s at (refused n) = n ≡ 0 → ⊥
 TraceFacts s at ended = EndAt s at
 TraceFacts s at (sizes k a next) = KaAt s at k a next
-TraceFacts s at (request page next) = RqAt s at page next
+TraceFacts s at (request page times next) = RequestAt s at page times next
 TraceFacts s at (bundle t n from next) = ⊥
 TraceFacts s at (fetch t page next) = ⊥
 
@@ -71,7 +89,7 @@ abbrev pub ScheduleFacts : ℕ → List ℕ → ℕ → Answer → Type 0
 ScheduleFacts bound s at (refused n) = n ≡ 0 → ⊥
 ScheduleFacts bound s at ended = EndAt s at
 ScheduleFacts bound s at (sizes k a next) = KaAt s at k a next
-ScheduleFacts bound s at (request page next) = ⊥
+ScheduleFacts bound s at (request page times next) = ⊥
 ScheduleFacts bound s at (bundle t n from next) = EvAt bound s at t n from next
 ScheduleFacts bound s at (fetch t page next) = PfAt s at t page next
 
@@ -88,6 +106,7 @@ number n e = omega arith
 MarkFacts : List ℕ → Mark → Type 0
 MarkFacts b KA = num16 b ≡ markKA
 MarkFacts b RQ = num16 b ≡ markRQ
+MarkFacts b RR = num16 b ≡ markRR
 MarkFacts b EV = num16 b ≡ markEV
 MarkFacts b PF = num16 b ≡ markPF
 MarkFacts b (bad n) = n ≡ 0 → ⊥
@@ -98,8 +117,9 @@ mark-facts b =
     by (MarkFacts b) (ltb (length b) 2) _ _ (λ e. number 4)
     (λ e. by (MarkFacts b) (eqb (num16 b) markKA) _ _ (eqb-true (num16 b) markKA)
     (λ e. by (MarkFacts b) (eqb (num16 b) markRQ) _ _ (eqb-true (num16 b) markRQ)
+    (λ e. by (MarkFacts b) (eqb (num16 b) markRR) _ _ (eqb-true (num16 b) markRR)
     (λ e. by (MarkFacts b) (eqb (num16 b) markEV) _ _ (eqb-true (num16 b) markEV)
-    (λ e. by (MarkFacts b) (eqb (num16 b) markPF) _ _ (eqb-true (num16 b) markPF) (λ e. number 3)))))
+    (λ e. by (MarkFacts b) (eqb (num16 b) markPF) _ _ (eqb-true (num16 b) markPF) (λ e. number 3))))))
 
 -- ---- KA: the same for both readers, whose facts P has
 
@@ -117,6 +137,7 @@ module _ (P : Answer → Type 0) (s : List ℕ) (at : ℕ) (start : at ≡ 0) (n
       ka-judged (num16 (drop 2 s)) (num16 (drop 4 s)) (sizesRefusal (num16 (drop 2 s)) (num16 (drop 4 s)) 0) refl
       (λ r. record { start = start; behind = refl; inside = l; mark = f; k-is = refl; a-is = refl; right = r }))
   ka-facts RQ f = no-number 4 (number 3)
+  ka-facts RR f = no-number 4 (number 3)
   ka-facts EV f = no-number 4 (number 3)
   ka-facts PF f = no-number 4 (number 3)
   ka-facts (bad n) f = no-number n f
@@ -134,25 +155,52 @@ reader-facts P s at x no-number taken end later =
     let l : at ≤ length s = ltb-false (length s) at e in
     by P (eqb at (length s)) _ _ (λ w. end (record { start = q; last = eqb-true at (length s) w })) (λ w. later q l)))
 
--- ---- RQ
+-- ---- RQ and RR
 
 module _ (s : List ℕ) (at : ℕ) (start : 0 < at) (here : at ≤ length s) where
-  rq-facts : (m : Mark) → MarkFacts (drop at s) m → TraceFacts s at (rqRead m (drop at s) at)
-  unfolding rqRead MarkFacts
-  rq-facts RQ f =
+  rq-facts : num16 (drop at s) ≡ markRQ → TraceFacts s at (rqRead (drop at s) at)
+  unfolding rqRead
+  rq-facts f =
       by (TraceFacts s at) (ltb (length (drop at s)) 6) _ _ (λ e. number 4)
       (λ e. let l : 6 ≤ length (drop at s) = ltb-false (length (drop at s)) 6 e in
+      let i : at + 6 ≤ length s = omega (arith, length-drop at s) in
       record {
         start = start;
-        behind = refl;
-        inside = omega (arith, length-drop at s);
-        mark = f;
-        page-is = ap num32 (drop-drop 2 at s);
+        some = omega arith;
+        onward = omega arith;
+        near = omega arith;
+        inside = i;
+        form = inl (record { behind = refl; inside = i; mark = f; page-is = ap num32 (drop-drop 2 at s); once = refl });
       })
-  rq-facts KA f = number 3
-  rq-facts EV f = number 3
-  rq-facts PF f = number 3
-  rq-facts (bad n) f = f
+
+  rr-facts : num16 (drop at s) ≡ markRR → TraceFacts s at (rrRead (drop at s) at)
+  unfolding rrRead
+  rr-facts f =
+      by (TraceFacts s at) (ltb (length (drop at s)) 8) _ _ (λ e. number 4)
+      (λ e. by (TraceFacts s at) (eqb (num16 (drop 6 (drop at s))) 0) _ _ (λ z. number 12)
+      (λ z. let l : 8 ≤ length (drop at s) = ltb-false (length (drop at s)) 8 e in
+      let n : num16 (drop 6 (drop at s)) ≡ 0 → ⊥ = eqb-false (num16 (drop 6 (drop at s))) 0 z in
+      let i : at + 8 ≤ length s = omega (arith, length-drop at s) in
+      record {
+        start = start;
+        some = positive (num16 (drop 6 (drop at s))) n;
+        onward = omega arith;
+        near = omega arith;
+        inside = i;
+        form = inr (record { behind = refl; inside = i; mark = f; page-is = ap num32 (drop-drop 2 at s); times-is = ap num16 (drop-drop 6 at s) });
+      }))
+    where
+      positive : (n : ℕ) → (n ≡ 0 → ⊥) → 0 < n
+      positive n h = omega arith
+
+  request-facts : (m : Mark) → MarkFacts (drop at s) m → TraceFacts s at (requestRead m (drop at s) at)
+  unfolding requestRead MarkFacts
+  request-facts RQ f = rq-facts f
+  request-facts RR f = rr-facts f
+  request-facts KA f = number 3
+  request-facts EV f = number 3
+  request-facts PF f = number 3
+  request-facts (bad n) f = f
 
   -- ---- EV and PF
 
@@ -212,6 +260,7 @@ module _ (s : List ℕ) (at : ℕ) (start : 0 < at) (here : at ≤ length s) whe
   entry-facts bound PF f = pf-facts bound f
   entry-facts bound KA f = number 3
   entry-facts bound RQ f = number 3
+  entry-facts bound RR f = number 3
   entry-facts bound (bad n) f = f
 
 -- ---- the facts of every answer
@@ -219,8 +268,8 @@ module _ (s : List ℕ) (at : ℕ) (start : 0 < at) (here : at ≤ length s) whe
 pub trace-facts : (s : List ℕ) (at : ℕ) → TraceFacts s at (readTrace s at)
 unfolding readTrace
 trace-facts s at =
-    reader-facts (TraceFacts s at) s at (rqRead (markAt (drop at s)) (drop at s) at) (λ n z. z) (λ k a next f. f) (λ f. f)
-    (λ q l. rq-facts s at q l (markAt (drop at s)) (mark-facts (drop at s)))
+    reader-facts (TraceFacts s at) s at (requestRead (markAt (drop at s)) (drop at s) at) (λ n z. z) (λ k a next f. f) (λ f. f)
+    (λ q l. request-facts s at q l (markAt (drop at s)) (mark-facts (drop at s)))
 
 pub schedule-facts : (bound : ℕ) (s : List ℕ) (at : ℕ) → ScheduleFacts bound s at (readSchedule bound s at)
 unfolding readSchedule

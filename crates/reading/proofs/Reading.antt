@@ -12,8 +12,8 @@ use Rattle.lists.specs.Choice.{pick, _or_}
 use Rattle.paging.specs.Refusals.{sizesRefusal}
 use Rattle.wire.specs.Numbers.{num16, num32}
 use Rattle.records.specs.Bytes.{evLength}
-use Rattle.records.specs.Marks.{Mark, KA, RQ, bad, markOf, markAt}
-use Rattle.reading.specs.Reading.{Answer, refused, ended, sizes, request, bundle, fetch, unless, kaRead, rqRead, evRead, pfRead, entryRead, countRefused, readTrace, readSchedule}
+use Rattle.records.specs.Marks.{Mark, KA, bad, markOf, markAt}
+use Rattle.reading.specs.Reading.{Answer, refused, ended, sizes, request, bundle, fetch, unless, kaRead, rqRead, rrRead, requestRead, evRead, pfRead, entryRead, countRefused, readTrace, readSchedule}
 
 -- ---- marks
 
@@ -48,7 +48,7 @@ unfolding kaRead
 ka-taken s k a n h ek ea en is0 =
     rw (le-ltb (length s) 6 h, ← ek, ← ea, ← en, is0)
 
--- ---- RQ, EV, PF at an offset
+-- ---- RQ, RR, EV, PF at an offset
 
 -- a field of the record at `at` is a field of the file
 field16 : (s : List ℕ) (at i : ℕ) → num16 (drop i (drop at s)) ≡ num16 (drop (at + i) s)
@@ -58,13 +58,26 @@ field32 : (s : List ℕ) (at i : ℕ) → num32 (drop i (drop at s)) ≡ num32 (
 field32 s at i = ap num32 (drop-drop i at s)
 
 module _ (s : List ℕ) (at : ℕ) where
-  pub rq-cut : length s - at < 6 → refused 5 ≡ rqRead RQ (drop at s) at
+  pub rq-cut : length s - at < 6 → refused 5 ≡ rqRead (drop at s) at
   unfolding rqRead
   rq-cut h = rw (length-drop at s, lt-ltb (length s - at) 6 h)
 
-  pub rq-taken : {page : ℕ} → 6 ≤ length s - at → page ≡ num32 (drop (at + 2) s) → request page (at + 6) ≡ rqRead RQ (drop at s) at
+  pub rq-taken : {page : ℕ} → 6 ≤ length s - at → page ≡ num32 (drop (at + 2) s) → request page 1 (at + 6) ≡ rqRead (drop at s) at
   unfolding rqRead
   rq-taken h e = rw (length-drop at s, le-ltb (length s - at) 6 h, field32 s at 2, ← e)
+
+  pub rr-cut : length s - at < 8 → refused 5 ≡ rrRead (drop at s) at
+  unfolding rrRead
+  rr-cut h = rw (length-drop at s, lt-ltb (length s - at) 8 h)
+
+  module _ (times : ℕ) (h : 8 ≤ length s - at) (e : times ≡ num16 (drop (at + 6) s)) where
+    pub rr-none : times ≡ 0 → refused 13 ≡ rrRead (drop at s) at
+    unfolding rrRead
+    rr-none z = rw (length-drop at s, le-ltb (length s - at) 8 h, field16 s at 6, ← e, eq-eqb times 0 z)
+
+    pub rr-taken : {page : ℕ} → (times ≡ 0 → ⊥) → page ≡ num32 (drop (at + 2) s) → request page times (at + 8) ≡ rrRead (drop at s) at
+    unfolding rrRead
+    rr-taken z ep = rw (length-drop at s, le-ltb (length s - at) 8 h, field16 s at 6, ← e, ne-eqb times 0 z, field32 s at 2, ← ep)
 
   pub pf-cut : length s - at < 10 → refused 5 ≡ pfRead (drop at s) at
   unfolding pfRead
@@ -151,7 +164,7 @@ module _ (s : List ℕ) (at : ℕ) where
   trace-last = last s at _
 
   pub trace-later : {y : Answer} → at ≤ length s → (at ≡ 0 → ⊥) → (at ≡ length s → ⊥)
-      → y ≡ rqRead (markAt (drop at s)) (drop at s) at → y ≡ readTrace s at
+      → y ≡ requestRead (markAt (drop at s)) (drop at s) at → y ≡ readTrace s at
   unfolding readTrace
   trace-later = later s at _
 

@@ -4,7 +4,7 @@ use native.Mathlib.Omega.{arith}
 use mathlib.Core.Bool.{false}
 use mathlib.Core.List.{List, [], _∷_, _++_, append-assoc, append-nil}
 use mathlib.Core.Path.{_≡_, refl, sym, ap, _∙_}
-use lib.ListN.{length, drop, length-append}
+use lib.ListN.{length, drop, replicate, length-append}
 use lib.Seq.{drop-append-seam, drop-append-add}
 use borrow.Author.Tests.{le-ltb}
 use Rattle.paging.specs.Refusals.{sizesRefusal, SizesRight}
@@ -12,17 +12,19 @@ use Rattle.paging.specs.Schedule.{Entry, ev, pf}
 use Rattle.paging.proofs.Refusals.{sizes-taken}
 use Rattle.wire.specs.Numbers.{num16, num32, bytes16, bytes32, allBytes32, nums32}
 use Rattle.wire.proofs.Numbers.{num16-bytes16, num32-bytes32, nums32-allBytes32, length-allBytes32}
-use Rattle.records.specs.Bytes.{kaBytes, rqBytes, evBytes, pfBytes, entryBytes, joined, traceBytes, scheduleBytes, evLength, Writable, AllWritable}
-use Rattle.records.specs.Marks.{KA, RQ, EV, PF, markOf, markAt, markKA, markRQ, markEV, markPF}
+use Rattle.records.specs.Bytes.{kaBytes, rqBytes, rrBytes, evBytes, pfBytes, entryBytes, joined, TraceEntry, rq, rr, traceEntryBytes, traceBytes, allRequestsOf, RunsWritable}
+use Rattle.records.specs.Bytes.{TraceFileOf, scheduleBytes, evLength, Writable, AllWritable}
+use Rattle.records.specs.Marks.{KA, RQ, RR, EV, PF, markOf, markAt, markKA, markRQ, markRR, markEV, markPF}
 use Rattle.records.proofs.Lengths.{length-evBytes}
-use Rattle.reading.specs.Files.{before, requestsFrom, entriesFrom, ReadsAsTrace, ReadsAsSchedule}
-use Rattle.reading.specs.Reading.{ended, sizes, request, bundle, fetch, kaRead, rqRead, entryRead, countRefused, readTrace, readSchedule}
-use Rattle.reading.proofs.Reading.{ka-taken, rq-taken, pf-taken, ev-taken, trace-first, trace-last, trace-later, schedule-first, schedule-last, schedule-later, count-fine}
+use Rattle.reading.specs.Files.{File, before, requestsFrom, entriesFrom, ReadsAsTrace, ReadsAsSchedule}
+use Rattle.reading.specs.Reading.{ended, sizes, request, bundle, fetch, kaRead, requestRead, entryRead, countRefused, readTrace, readSchedule}
+use Rattle.reading.proofs.Reading.{ka-taken, rq-taken, rr-taken, pf-taken, ev-taken, trace-first, trace-last, trace-later, schedule-first, schedule-last, schedule-later, count-fine}
 use Rattle.reading.proofs.Walk.{requests-sizes, requests-request, requests-ended, entries-sizes, entries-bundle, entries-fetch, entries-ended}
 
 -- ---- one law for each record. KA stands at the start, the others behind some bytes `pre`
 
-marked : (m : ℕ) (r : List ℕ) → markAt (bytes16 m ++ r) ≡ markOf (num16 (bytes16 m ++ r))
+-- a record's first bytes are judged as its mark
+pub marked : (m : ℕ) (r : List ℕ) → markAt (bytes16 m ++ r) ≡ markOf (num16 (bytes16 m ++ r))
 unfolding markAt
 marked m r = rw (le-ltb (length (bytes16 m ++ r)) 2 (omega arith))
 
@@ -53,18 +55,34 @@ module _ (pre : List ℕ) (some : 0 < length pre) where
   marked-here : (m : ℕ) (r : List ℕ) → markAt (drop (length pre) (pre ++ (bytes16 m ++ r))) ≡ markOf (num16 (bytes16 m ++ r))
   marked-here m r = ap markAt (drop-append-seam pre (bytes16 m ++ r)) ∙ marked m r
 
-  pub trace-rq : (page : ℕ) (rest : List ℕ) → readTrace (pre ++ (rqBytes page ++ rest)) (length pre) ≡ request page (length pre + 6)
-  unfolding markOf
+  pub trace-rq : (page : ℕ) (rest : List ℕ) → readTrace (pre ++ (rqBytes page ++ rest)) (length pre) ≡ request page 1 (length pre + 6)
+  unfolding markOf requestRead
   trace-rq page rest =
       let l : length (pre ++ (rqBytes page ++ rest)) ≡ length pre + length (rqBytes page ++ rest) = length-append pre (rqBytes page ++ rest) in
       let off : length pre ≡ length (pre ++ (rqBytes page ++ rest)) → ⊥ = λ e. omega arith in
       let e : markAt (drop (length pre) (pre ++ (rqBytes page ++ rest))) ≡ RQ = marked-here markRQ (bytes32 page ++ rest) in
       let p : page ≡ num32 (drop (length pre + 2) (pre ++ (rqBytes page ++ rest)))
       = sym (ap num32 (drop-append-add pre (rqBytes page ++ rest) 2) ∙ num32-bytes32 page rest) in
-      let q : request page (length pre + 6)
-      ≡ rqRead (markAt (drop (length pre) (pre ++ (rqBytes page ++ rest)))) (drop (length pre) (pre ++ (rqBytes page ++ rest))) (length pre)
+      let q : request page 1 (length pre + 6)
+      ≡ requestRead (markAt (drop (length pre) (pre ++ (rqBytes page ++ rest)))) (drop (length pre) (pre ++ (rqBytes page ++ rest))) (length pre)
       = rw e (rq-taken (pre ++ (rqBytes page ++ rest)) (length pre) (omega arith) p) in
       sym (trace-later (pre ++ (rqBytes page ++ rest)) (length pre) (omega arith) apart off q)
+
+  pub trace-rr : (page times : ℕ) (rest : List ℕ) → 0 < times
+      → readTrace (pre ++ (rrBytes page times ++ rest)) (length pre) ≡ request page times (length pre + 8)
+  unfolding markOf requestRead
+  trace-rr page times rest h =
+      let l : length (pre ++ (rrBytes page times ++ rest)) ≡ length pre + length (rrBytes page times ++ rest) = length-append pre (rrBytes page times ++ rest) in
+      let off : length pre ≡ length (pre ++ (rrBytes page times ++ rest)) → ⊥ = λ e. omega arith in
+      let e : markAt (drop (length pre) (pre ++ (rrBytes page times ++ rest))) ≡ RR = marked-here markRR (bytes32 page ++ (bytes16 times ++ rest)) in
+      let p : page ≡ num32 (drop (length pre + 2) (pre ++ (rrBytes page times ++ rest)))
+      = sym (ap num32 (drop-append-add pre (rrBytes page times ++ rest) 2) ∙ num32-bytes32 page (bytes16 times ++ rest)) in
+      let n : times ≡ num16 (drop (length pre + 6) (pre ++ (rrBytes page times ++ rest)))
+      = sym (ap num16 (drop-append-add pre (rrBytes page times ++ rest) 6) ∙ num16-bytes16 times rest) in
+      let q : request page times (length pre + 8)
+      ≡ requestRead (markAt (drop (length pre) (pre ++ (rrBytes page times ++ rest)))) (drop (length pre) (pre ++ (rrBytes page times ++ rest))) (length pre)
+      = rw e (rr-taken (pre ++ (rrBytes page times ++ rest)) (length pre) times (omega arith) n (λ z. omega arith) p) in
+      sym (trace-later (pre ++ (rrBytes page times ++ rest)) (length pre) (omega arith) apart off q)
 
   pub schedule-pf : (bound t page : ℕ) (rest : List ℕ)
       → readSchedule bound (pre ++ (pfBytes t page ++ rest)) (length pre) ≡ fetch t page (length pre + 10)
@@ -122,13 +140,27 @@ passed f pre b rest n x e h =
 more : (pre b : List ℕ) → 0 < length pre → 0 < length (pre ++ b)
 more pre b h = rw (length-append pre b) (omega arith)
 
-pub requests-back : (pages pre : List ℕ) → 0 < length pre
-    → requestsFrom (pre ++ joined rqBytes pages) (length pre) ≡ record { held = pages; damage = 0 }
-requests-back [] pre h = requests-ended (pre ++ []) (length pre) (trace-end pre h)
-requests-back (p ∷ pages) pre h =
-    requests-request (pre ++ (rqBytes p ++ joined rqBytes pages)) (length pre) p (length pre + 6) (trace-rq pre h p (joined rqBytes pages))
-    ∙ ap (before (p ∷ [])) (passed requestsFrom pre (rqBytes p) (joined rqBytes pages) 6 (record { held = pages; damage = 0 }) refl
-    (requests-back pages (pre ++ rqBytes p) (more pre (rqBytes p) h)))
+-- what stands behind one more record of a trace: the record's requests come first
+module _ (pre : List ℕ) (some : 0 < length pre) (rest : List ℕ) (x : File ℕ) where
+  pub rq-back : (page : ℕ) → requestsFrom (pre ++ rqBytes page ++ rest) (length (pre ++ rqBytes page)) ≡ x
+      → requestsFrom (pre ++ (rqBytes page ++ rest)) (length pre) ≡ before (page ∷ []) x
+  rq-back page h =
+      requests-request (pre ++ (rqBytes page ++ rest)) (length pre) page 1 (length pre + 6) (trace-rq pre some page rest)
+      ∙ ap (before (page ∷ [])) (passed requestsFrom pre (rqBytes page) rest 6 x refl h)
+
+  pub rr-back : (page times : ℕ) → 0 < times → requestsFrom (pre ++ rrBytes page times ++ rest) (length (pre ++ rrBytes page times)) ≡ x
+      → requestsFrom (pre ++ (rrBytes page times ++ rest)) (length pre) ≡ before (replicate times page) x
+  rr-back page times n h =
+      requests-request (pre ++ (rrBytes page times ++ rest)) (length pre) page times (length pre + 8) (trace-rr pre some page times rest n)
+      ∙ ap (before (replicate times page)) (passed requestsFrom pre (rrBytes page times) rest 8 x refl h)
+
+pub requests-back : (entries : List TraceEntry) (pre : List ℕ) → RunsWritable entries → 0 < length pre
+    → requestsFrom (pre ++ joined traceEntryBytes entries) (length pre) ≡ record { held = allRequestsOf entries; damage = 0 }
+requests-back [] pre w h = requests-ended (pre ++ []) (length pre) (trace-end pre h)
+requests-back (rq page ∷ entries) pre w h =
+    rq-back pre h (joined traceEntryBytes entries) _ page (requests-back entries (pre ++ rqBytes page) (w .1) (more pre (rqBytes page) h))
+requests-back (rr page times ∷ entries) pre w h =
+    rr-back pre h (joined traceEntryBytes entries) _ page times (w .0) (requests-back entries (pre ++ rrBytes page times) (w .1) (more pre (rrBytes page times) h))
 
 pub entries-back : (bound : ℕ) (entries : List Entry) (pre : List ℕ) → AllWritable bound entries → 0 < length pre
     → entriesFrom bound (pre ++ joined entryBytes entries) (length pre) ≡ record { held = entries; damage = 0 }
@@ -150,11 +182,15 @@ entries-back bound (pf t page ∷ entries) pre w h =
 
 -- ---- the theorems over whole files
 
--- a trace's bytes read as KA, the pages in order, and the end
-pub trace-reads-back : (k a : ℕ) (pages : List ℕ) → SizesRight k a → ReadsAsTrace k a pages (traceBytes k a pages)
-trace-reads-back k a pages right =
-    let first : readTrace (traceBytes k a pages) 0 ≡ sizes k a 6 = trace-ka k a (joined rqBytes pages) (sizes-taken k a right 0) in
-    (first, requests-sizes (traceBytes k a pages) 0 k a 6 first ∙ requests-back pages (kaBytes k a) (omega arith))
+-- the bytes of a trace's records read as KA, the requests that they stand for in order, and the end
+pub records-read-back : (k a : ℕ) (entries : List TraceEntry) → SizesRight k a → RunsWritable entries → ReadsAsTrace k a (allRequestsOf entries) (traceBytes k a entries)
+records-read-back k a entries right runs =
+    let first : readTrace (traceBytes k a entries) 0 ≡ sizes k a 6 = trace-ka k a (joined traceEntryBytes entries) (sizes-taken k a right 0) in
+    (first, requests-sizes (traceBytes k a entries) 0 k a 6 first ∙ requests-back entries (kaBytes k a) runs (omega arith))
+
+-- so does every file of a trace
+pub trace-reads-back : (k a : ℕ) (pages file : List ℕ) → SizesRight k a → TraceFileOf k a pages file → ReadsAsTrace k a pages file
+trace-reads-back k a pages file right f = rw (f .bytes, ← f .requests) (records-read-back k a (f .entries) right (f .runs))
 
 -- a schedule's bytes read as KA, the same entries in the same order with the same pages, and the end
 pub schedule-reads-back : (bound k a : ℕ) (entries : List Entry) → SizesRight k a → AllWritable bound entries

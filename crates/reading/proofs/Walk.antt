@@ -4,7 +4,7 @@ use Prim.Native.Nat.{ℕ, zero, suc, _+_, _<_, _≤_}
 use native.Mathlib.Omega.{arith}
 use mathlib.Core.List.{List, [], _∷_}
 use mathlib.Core.Path.{_≡_, refl, ap, _∙_}
-use lib.ListN.{length, drop}
+use lib.ListN.{length, drop, replicate}
 use Rattle.paging.specs.Schedule.{ev, pf}
 use Rattle.wire.specs.Numbers.{nums32}
 use Rattle.reading.specs.Files.{File, before, only, onward, walk, pagesIn, requestsFrom, entriesIn, entriesFrom}
@@ -16,7 +16,7 @@ abbrev pub Goes : ℕ → ℕ → Answer → Type 0
 Goes size at (refused n) = Unit {0}
 Goes size at ended = Unit {0}
 Goes size at (sizes k a next) = (at < next) × (next ≤ size)
-Goes size at (request page next) = (at < next) × (next ≤ size)
+Goes size at (request page times next) = (at < next) × (next ≤ size)
 Goes size at (bundle t n from next) = (at < next) × (next ≤ size)
 Goes size at (fetch t page next) = (at < next) × (next ≤ size)
 
@@ -27,7 +27,7 @@ module _ {A : Type 0} (reader : ℕ → Answer) (holds : Answer → List A) (siz
   agree at (refused n) xs f g h e = refl
   agree at ended xs f g h e = refl
   agree at (sizes k a next) xs f g h e = ap (before xs) (e next (h .0) (h .1))
-  agree at (request page next) xs f g h e = ap (before xs) (e next (h .0) (h .1))
+  agree at (request page times next) xs f g h e = ap (before xs) (e next (h .0) (h .1))
   agree at (bundle t n from next) xs f g h e = ap (before xs) (e next (h .0) (h .1))
   agree at (fetch t page next) xs f g h e = ap (before xs) (e next (h .0) (h .1))
 
@@ -50,7 +50,7 @@ trace-leads : (s : List ℕ) (at : ℕ) (x : Answer) → TraceFacts s at x → G
 trace-leads s at (refused n) f = tt
 trace-leads s at ended f = tt
 trace-leads s at (sizes k a next) f = (omega arith, omega arith)
-trace-leads s at (request page next) f = (omega arith, omega arith)
+trace-leads s at (request page times next) f = (f .onward, f .inside)
 trace-leads s at (bundle t n from next) f = absurd f
 trace-leads s at (fetch t page next) f = absurd f
 
@@ -75,8 +75,9 @@ module _ (s : List ℕ) (at : ℕ) where
   pub requests-sizes : (k a next : ℕ) → readTrace s at ≡ sizes k a next → requestsFrom s at ≡ requestsFrom s next
   requests-sizes k a next e = follow (sizes k a next) e
 
-  pub requests-request : (page next : ℕ) → readTrace s at ≡ request page next → requestsFrom s at ≡ before (page ∷ []) (requestsFrom s next)
-  requests-request page next e = follow (request page next) e
+  pub requests-request : (page times next : ℕ) → readTrace s at ≡ request page times next
+      → requestsFrom s at ≡ before (replicate times page) (requestsFrom s next)
+  requests-request page times next e = follow (request page times next) e
 
 -- ---- the schedule
 
@@ -84,7 +85,7 @@ schedule-leads : (bound : ℕ) (s : List ℕ) (at : ℕ) (x : Answer) → Schedu
 schedule-leads bound s at (refused n) f = tt
 schedule-leads bound s at ended f = tt
 schedule-leads bound s at (sizes k a next) f = (omega arith, omega arith)
-schedule-leads bound s at (request page next) f = absurd f
+schedule-leads bound s at (request page times next) f = absurd f
 schedule-leads bound s at (bundle t n from next) f = (omega arith, omega arith)
 schedule-leads bound s at (fetch t page next) f = (omega arith, omega arith)
 

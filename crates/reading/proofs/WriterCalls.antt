@@ -6,9 +6,10 @@ use native.Mathlib.Omega.{arith}
 use mathlib.Core.Bool.{true, false}
 use mathlib.Core.List.{List, [], _∷_, _++_, map, append-nil}
 use mathlib.Core.Path.{_≡_, refl, sym, ap, _∙_}
+use lib.Dec.{eqb}
 use lib.ListN.{length, drop, replicate, length-append, take-append-drop, drop-of-length-le}
 use lib.Seq.{take-append-seam, drop-append-seam}
-use borrow.Author.Tests.{eqb-true}
+use borrow.Author.Tests.{eqb-true, eqb-false}
 use Rattle.lists.specs.Choice.{_and_, _or_}
 use Rattle.lists.proofs.Choice.{and-l, and-r}
 use Rattle.paging.specs.Refusals.{largestK, sizesRefusal, SizesRight}
@@ -16,26 +17,32 @@ use Rattle.paging.specs.Schedule.{Entry, ev, pf}
 use Rattle.paging.proofs.Refusals.{zero-pass, sizes-rest}
 use Rattle.wire.specs.Numbers.{placed}
 use Rattle.wire.proofs.Numbers.{placed-join}
-use Rattle.records.specs.Bytes.{kaBytes, evBytes, joined, traceBytes, scheduleBytes, Writable, AllWritable}
-use Rattle.records.specs.Writing.{roomRefusal, pagesRefused, kaRefusal, rqRefusal, evRefusal, pfRefusal}
+use Rattle.records.specs.Bytes.{kaBytes, rrBytes, evBytes, joined, TraceEntry, traceBytes, allRequestsOf, RunWritable, RunsWritable, scheduleBytes, Writable}
+use Rattle.records.specs.Bytes.{AllWritable}
+use Rattle.records.specs.Bytes as bytes
+use Rattle.records.specs.Writing.{roomRefusal, pagesRefused, kaRefusal, rqRefusal, rrRefusal, evRefusal, pfRefusal}
 use Rattle.records.proofs.Writing.{pages-within, room-fits}
 use Rattle.reading.specs.Files.{ReadsAsTrace, ReadsAsSchedule}
-use Rattle.reading.specs.WriterCalls.{WriterCall, ka, rq, entry, callBytes, callRefusal, WriterState, writerStart, writerNext, writerAfterCalls, allAccepted}
+use Rattle.reading.specs.WriterCalls.{WriterCall, ka, asked, entry, callBytes, callRefusal, WriterState, writerStart, writerNext, writerAfterCalls, allAccepted}
 use Rattle.reading.specs.WriterCalls.{traceCalls, scheduleCalls, FileWritten}
-use Rattle.reading.proofs.RoundTrip.{trace-reads-back, schedule-reads-back}
+use Rattle.reading.proofs.RoundTrip.{records-read-back, schedule-reads-back}
 
 -- ---- one call that is accepted
 
 -- what is right about a record that a writer accepts, and there is room for its bytes
 abbrev Right : WriterCall → Type 0
 Right (ka k a) = SizesRight k a
-Right (rq page) = Unit {0}
+Right (asked e) = RunWritable e
 Right (entry e) = Writable largestK e
 
 accepted : (call : WriterCall) (out : List ℕ) (at : ℕ) → callRefusal call out at ≡ 0 → Right call × (0 ≡ roomRefusal (callBytes call) out at)
-unfolding kaRefusal rqRefusal evRefusal pfRefusal
+unfolding kaRefusal rqRefusal rrRefusal evRefusal pfRefusal
 accepted (ka k a) out at e = let r = sizes-rest k a (roomRefusal (kaBytes k a) out at) e in (r .0, sym (r .1))
-accepted (rq page) out at e = (tt, sym e)
+accepted (asked (bytes.rq page)) out at e = (tt, sym e)
+accepted (asked (bytes.rr page times)) out at e =
+    let r = zero-pass (eqb times 0) 13 (roomRefusal (rrBytes page times) out at) (λ z. omega arith) e in
+    let n = eqb-false times 0 (r .0) in
+    (omega arith, sym (r .1))
 accepted (entry (ev t pages)) out at e =
     let r = zero-pass (pagesRefused (length pages)) 6 (roomRefusal (evBytes t pages) out at) (λ z. omega arith) e in
     let n = pages-within (length pages) (r .0) in
@@ -81,6 +88,11 @@ joined-map : {A : Type 0} (f : A → WriterCall) (xs : List A) → joined callBy
 joined-map f [] = refl
 joined-map f (x ∷ xs) = rw (joined-map f xs)
 
+runs-writable : (entries : List TraceEntry) (x : WriterState) → allAccepted (map asked entries) x ≡ true → RunsWritable entries
+runs-writable [] x all = tt
+runs-writable (e ∷ entries) x all =
+    (first-right (asked e) (map asked entries) x all, runs-writable entries _ (others-accepted (asked e) (map asked entries) x all))
+
 entries-writable : (entries : List Entry) (x : WriterState) → allAccepted (map entry entries) x ≡ true → AllWritable largestK entries
 entries-writable [] x all = tt
 entries-writable (e ∷ entries) x all =
@@ -107,12 +119,14 @@ module _ (calls : List WriterCall) (file : List ℕ) (out : List ℕ) (is : join
 
 -- ---- the theorems
 
--- a trace that was written by accepted calls reads back as the same pages
-pub written-trace-reads-back : (k a : ℕ) (pages out : List ℕ) → allAccepted (traceCalls k a pages) (writerStart out) ≡ true
-    → FileWritten (traceBytes k a pages) (ReadsAsTrace k a pages) out (writerAfterCalls (traceCalls k a pages) (writerStart out))
-written-trace-reads-back k a pages out all =
-    file-written (traceCalls k a pages) (traceBytes k a pages) out (ap (λ (b : List ℕ). kaBytes k a ++ b) (joined-map rq pages)) all
-    (ReadsAsTrace k a pages) (trace-reads-back k a pages (first-right (ka k a) (map rq pages) (writerStart out) all))
+-- a trace that was written by accepted calls reads back as the requests that its records stand for
+pub written-trace-reads-back : (k a : ℕ) (entries : List TraceEntry) (out : List ℕ) → allAccepted (traceCalls k a entries) (writerStart out) ≡ true
+    → FileWritten (traceBytes k a entries) (ReadsAsTrace k a (allRequestsOf entries)) out (writerAfterCalls (traceCalls k a entries) (writerStart out))
+written-trace-reads-back k a entries out all =
+    let right : SizesRight k a = first-right (ka k a) (map asked entries) (writerStart out) all in
+    let runs : RunsWritable entries = runs-writable entries _ (others-accepted (ka k a) (map asked entries) (writerStart out) all) in
+    file-written (traceCalls k a entries) (traceBytes k a entries) out (ap (λ (b : List ℕ). kaBytes k a ++ b) (joined-map asked entries)) all
+    (ReadsAsTrace k a (allRequestsOf entries)) (records-read-back k a entries right runs)
 
 -- a schedule that was written by accepted calls reads back as the same bundles and fetches, with the bound of a reader that has no a
 pub written-schedule-reads-back : (k a : ℕ) (entries : List Entry) (out : List ℕ) → allAccepted (scheduleCalls k a entries) (writerStart out) ≡ true

@@ -13,7 +13,7 @@ startAnswer (start.Refused n) = refused n
 
 abbrev pub traceAnswer : TraceRecord → Answer
 traceAnswer (trace.Sizes k a next) = sizes k a next
-traceAnswer (trace.Request page next) = request page next
+traceAnswer (trace.Request page times next) = request page times next
 traceAnswer trace.End = ended
 traceAnswer (trace.Refused n) = refused n
 

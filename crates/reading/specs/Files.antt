@@ -3,7 +3,7 @@
 use Prim.Native.Nat.{ℕ, zero, suc}
 use mathlib.Core.List.{List, [], _∷_, _++_}
 use mathlib.Core.Path.{_≡_}
-use lib.ListN.{length, drop}
+use lib.ListN.{length, drop, replicate}
 use Rattle.paging.specs.Schedule.{Entry, ev, pf}
 use Rattle.wire.specs.Numbers.{nums32}
 use Rattle.reading.specs.Reading.{Answer, refused, ended, sizes, request, bundle, fetch, readTrace, readSchedule}
@@ -24,7 +24,7 @@ abbrev pub onward : {A : Type 0} → List A → Answer → (ℕ → File A) → 
 onward xs (refused n) go = only n
 onward xs ended go = only 0
 onward xs (sizes k a next) go = before xs (go next)
-onward xs (request page next) go = before xs (go next)
+onward xs (request page times next) go = before xs (go next)
 onward xs (bundle t n from next) go = before xs (go next)
 onward xs (fetch t page next) go = before xs (go next)
 
@@ -33,9 +33,9 @@ abbrev pub walk : {A : Type 0} → (ℕ → Answer) → (Answer → List A) → 
 walk reader holds zero at = only 0
 walk reader holds (suc f) at = onward (holds (reader at)) (reader at) (walk reader holds f)
 
--- a trace's records hold requests
+-- a trace's records hold requests; a run holds its single requests
 abbrev pub pagesIn : Answer → List ℕ
-pagesIn (request page next) = page ∷ []
+pagesIn (request page times next) = replicate times page
 pagesIn (refused n) = []
 pagesIn ended = []
 pagesIn (sizes k a next) = []
@@ -52,7 +52,7 @@ entriesIn s (fetch t page next) = pf t page ∷ []
 entriesIn s (refused n) = []
 entriesIn s ended = []
 entriesIn s (sizes k a next) = []
-entriesIn s (request page next) = []
+entriesIn s (request page times next) = []
 
 unfoldable pub entriesFrom : ℕ → List ℕ → ℕ → File Entry
 entriesFrom bound s at = walk (readSchedule bound s) (entriesIn s) (suc (length s)) at

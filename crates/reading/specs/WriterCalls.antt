@@ -9,23 +9,25 @@ use lib.Dec.{eqb}
 use lib.ListN.{length, take, drop}
 use Rattle.lists.specs.Choice.{_and_}
 use Rattle.paging.specs.Schedule.{Entry, ev, pf}
-use Rattle.records.specs.Bytes.{kaBytes, rqBytes, entryBytes}
-use Rattle.records.specs.Writing.{Wrote, stored, refused, kaRefusal, rqRefusal, evRefusal, pfRefusal, wrote, outAfter}
+use Rattle.records.specs.Bytes.{TraceEntry, kaBytes, traceEntryBytes, entryBytes}
+use Rattle.records.specs.Bytes as bytes
+use Rattle.records.specs.Writing.{Wrote, stored, refused, kaRefusal, rqRefusal, rrRefusal, evRefusal, pfRefusal, wrote, outAfter}
 
--- a call writes a KA, an RQ, or an entry of a schedule: an EV or a PF
+-- a call writes a KA, a record of a trace behind it (an RQ or an RR), or an entry of a schedule: an EV or a PF
 pub data WriterCall : Type 0 where
   ka : (k a : ℕ) → WriterCall
-  rq : (page : ℕ) → WriterCall
+  asked : (e : TraceEntry) → WriterCall
   entry : (e : Entry) → WriterCall
 
 abbrev pub callBytes : WriterCall → List ℕ
 callBytes (ka k a) = kaBytes k a
-callBytes (rq page) = rqBytes page
+callBytes (asked e) = traceEntryBytes e
 callBytes (entry e) = entryBytes e
 
 abbrev pub callRefusal : WriterCall → (out : List ℕ) → (at : ℕ) → ℕ
 callRefusal (ka k a) out at = kaRefusal k a out at
-callRefusal (rq page) out at = rqRefusal page out at
+callRefusal (asked (bytes.rq page)) out at = rqRefusal page out at
+callRefusal (asked (bytes.rr page times)) out at = rrRefusal page times out at
 callRefusal (entry (ev t pages)) out at = evRefusal t pages out at
 callRefusal (entry (pf t page)) out at = pfRefusal t page out at
 
@@ -59,8 +61,8 @@ allAccepted [] x = true
 allAccepted (call ∷ calls) x = eqb (callRefusal call (x .out) (x .at)) 0 and allAccepted calls (writerNext call x)
 
 -- the calls that write a trace, and those that write a schedule
-abbrev pub traceCalls : (k a : ℕ) → (pages : List ℕ) → List WriterCall
-traceCalls k a pages = ka k a ∷ map rq pages
+abbrev pub traceCalls : (k a : ℕ) → List TraceEntry → List WriterCall
+traceCalls k a entries = ka k a ∷ map asked entries
 
 abbrev pub scheduleCalls : (k a : ℕ) → List Entry → List WriterCall
 scheduleCalls k a entries = ka k a ∷ map entry entries

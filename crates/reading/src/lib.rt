@@ -1,12 +1,13 @@
-// The readers (document 01, "Files"): what stands at an offset of a file. Refusals in their order: 9, 4, 5, 1, 2, 6, then an EV's pages (5).
+// The readers (document 01, "Files"): what stands at an offset of a file. Refusals in their order: 9, 4, 5, then 1 and 2 for a KA, 13 for an RR (document
+// 02, request 03), 6 for an EV and 5 for its pages.
 ghost use Prim.Native.Nat.{_*_, _≤_};
 ghost use mathlib.Core.Path.{_≡_};
 ghost use lib.ListN.{length, take, drop};
 ghost use Rattle.paging.specs.Refusals.{largestK};
 ghost use Rattle.records.specs.Answers.{kindMark};
-ghost use Rattle.records.specs.Marks.{KA, RQ, markAt};
+ghost use Rattle.records.specs.Marks.{KA, markAt};
 ghost use Rattle.reading.specs.Answers.{startAnswer, traceAnswer, scheduleAnswer};
-ghost use Rattle.reading.specs.Reading.{kaRead, rqRead, evRead, pfRead, entryRead, readTrace, readSchedule};
+ghost use Rattle.reading.specs.Reading.{kaRead, rqRead, rrRead, requestRead, evRead, pfRead, entryRead, readTrace, readSchedule};
 use records::kind;
 use records::kind::Kind;
 use records::length;
@@ -17,10 +18,10 @@ pub enum Start {
     Refused(u32),
 }
 
-// What stands at an offset of a trace, with the offset behind it.
+// What stands at an offset of a trace, with the offset behind it. A page is requested so many times in a row: once in an RQ.
 pub enum TraceRecord {
     Sizes { k: u32, a: u32, next: usize },
-    Request { page: u32, next: usize },
+    Request { page: u32, times: u16, next: usize },
     End,
     Refused(u32),
 }
@@ -68,6 +69,7 @@ pub fn ka(s: &[u8]) -> Start
     match kind {
         Kind::Ka => sizes(s),
         Kind::Rq => Start::Refused(4),
+        Kind::Rr => Start::Refused(4),
         Kind::Ev => Start::Refused(4),
         Kind::Pf => Start::Refused(4),
         Kind::Refused(n) => Start::Refused(n),
@@ -162,11 +164,12 @@ fn sizes(s: &[u8]) -> Start
 // Behind a trace's KA, before its end.
 fn request(s: &[u8], at: usize) -> TraceRecord
     requires { ⌜ at ≤ length (now s) ⌝ }
-    ensures { λ r. ⌜ traceAnswer r ≡ rqRead (markAt (drop at (now (s .entry)))) (drop at (now (s .entry))) at ⌝ }
+    ensures { λ r. ⌜ traceAnswer r ≡ requestRead (markAt (drop at (now (s .entry)))) (drop at (now (s .entry))) at ⌝ }
 {
     let kind = mark_at(s, at);
     match kind {
-        Kind::Rq => page(s, at),
+        Kind::Rq => single(s, at),
+        Kind::Rr => run(s, at),
         Kind::Ka => TraceRecord::Refused(4),
         Kind::Ev => TraceRecord::Refused(4),
         Kind::Pf => TraceRecord::Refused(4),
@@ -175,16 +178,36 @@ fn request(s: &[u8], at: usize) -> TraceRecord
 }
 
 // The field of an RQ behind its mark.
-fn page(s: &[u8], at: usize) -> TraceRecord
+fn single(s: &[u8], at: usize) -> TraceRecord
     requires { ⌜ at ≤ length (now s) ⌝ }
-    ensures { λ r. ⌜ traceAnswer r ≡ rqRead RQ (drop at (now (s .entry))) at ⌝ }
+    ensures { λ r. ⌜ traceAnswer r ≡ rqRead (drop at (now (s .entry))) at ⌝ }
 {
     if s.len() - at < length::RQ {
         return TraceRecord::Refused(5);
     }
     TraceRecord::Request {
         page: wire::read32(s, at + 2),
+        times: 1,
         next: at + length::RQ,
+    }
+}
+
+// The fields of an RR behind its mark.
+fn run(s: &[u8], at: usize) -> TraceRecord
+    requires { ⌜ at ≤ length (now s) ⌝ }
+    ensures { λ r. ⌜ traceAnswer r ≡ rrRead (drop at (now (s .entry))) at ⌝ }
+{
+    if s.len() - at < length::RR {
+        return TraceRecord::Refused(5);
+    }
+    let times = wire::read16(s, at + 6);
+    if times == 0 {
+        return TraceRecord::Refused(13);
+    }
+    TraceRecord::Request {
+        page: wire::read32(s, at + 2),
+        times,
+        next: at + length::RR,
     }
 }
 
@@ -200,6 +223,7 @@ fn entry(s: &[u8], at: usize, bound: u32) -> ScheduleRecord
         Kind::Pf => fetch(s, at),
         Kind::Ka => ScheduleRecord::Refused(4),
         Kind::Rq => ScheduleRecord::Refused(4),
+        Kind::Rr => ScheduleRecord::Refused(4),
         Kind::Refused(n) => ScheduleRecord::Refused(n),
     }
 }

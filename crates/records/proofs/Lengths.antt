@@ -6,7 +6,7 @@ use mathlib.Core.Path.{_≡_, refl, sym, _∙_}
 use lib.ListN.{length}
 use borrow.Author.Tests.{lt-ltb, le-ltb}
 use Rattle.wire.proofs.Numbers.{length-allBytes32}
-use Rattle.records.specs.Bytes.{kaBytes, rqBytes, evBytes, pfBytes, evLength, tableEntry}
+use Rattle.records.specs.Bytes.{kaBytes, rqBytes, rrBytes, evBytes, pfBytes, evLength, tableEntry}
 
 -- ---- lengths
 
@@ -29,6 +29,9 @@ length-kaBytes k a = refl
 
 pub length-rqBytes : (page : ℕ) → length (rqBytes page) ≡ 6
 length-rqBytes page = refl
+
+pub length-rrBytes : (page times : ℕ) → length (rrBytes page times) ≡ 8
+length-rrBytes page times = refl
 
 pub length-pfBytes : (t page : ℕ) → length (pfBytes t page) ≡ 10
 length-pfBytes t page = refl

@@ -2,3 +2,4 @@ pub mod Table
 pub mod Lengths
 pub mod Writing
 pub mod Marks
+pub mod Files

@@ -1,4 +1,4 @@
--- Marks (document 01, "Files"): the two letters at the start of a record, which alone say what record it is.
+-- Marks (document 01, "Files"; RR is document 02's, request 03): the two letters at the start of a record, which alone say what record it is.
 use Prim.Native.Nat.{ℕ, _+_, _*_}
 use mathlib.Core.List.{List}
 use lib.Dec.{eqb, ltb}
@@ -17,6 +17,9 @@ markKA = letters 75 65
 abbrev pub markRQ : ℕ
 markRQ = letters 82 81
 
+abbrev pub markRR : ℕ
+markRR = letters 82 82
+
 abbrev pub markEV : ℕ
 markEV = letters 69 86
 
@@ -27,13 +30,19 @@ markPF = letters 80 70
 pub data Mark : Type 0 where
   KA : Mark
   RQ : Mark
+  RR : Mark
   EV : Mark
   PF : Mark
   bad : (number : ℕ) → Mark
 
 -- a mark that is unknown is 4
 unfoldable pub markOf : ℕ → Mark
-markOf m = pick (eqb m markKA) KA (pick (eqb m markRQ) RQ (pick (eqb m markEV) EV (pick (eqb m markPF) PF (bad 4))))
+markOf m =
+    pick (eqb m markKA) KA
+    (pick (eqb m markRQ) RQ
+    (pick (eqb m markRR) RR
+    (pick (eqb m markEV) EV
+    (pick (eqb m markPF) PF (bad 4)))))
 
 -- where not even a mark is left it is 5; else the mark is judged, whether the record is whole or not
 unfoldable pub markAt : List ℕ → Mark

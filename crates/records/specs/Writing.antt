@@ -1,5 +1,5 @@
 -- The writers (document 01, "Files"). Each stores its record into lent bytes and answers the offset behind it. It judges what is
--- wrong with the record itself first, 1 and 2 for a KA, 6 for an EV; then the offset, 9; then the room, 8.
+-- wrong with the record itself first, 1 and 2 for a KA, 6 for an EV, 13 for an RR (document 02, request 03); then the offset, 9; then the room, 8.
 use Prim.Native.Nat.{ℕ, zero, suc, _+_, _-_}
 use mathlib.Core.Bool.{Bool}
 use mathlib.Core.List.{List}
@@ -8,7 +8,7 @@ use lib.ListN.{length}
 use Rattle.lists.specs.Choice.{pick, _or_}
 use Rattle.paging.specs.Refusals.{refuse, sizesRefusal, largestK}
 use Rattle.wire.specs.Numbers.{placed}
-use Rattle.records.specs.Bytes.{kaBytes, rqBytes, evBytes, pfBytes}
+use Rattle.records.specs.Bytes.{kaBytes, rqBytes, rrBytes, evBytes, pfBytes}
 
 -- what a writer answers: the offset behind the record, or a refusal's number
 pub data Wrote : Type 0 where
@@ -28,6 +28,10 @@ kaRefusal k a out at = sizesRefusal k a (roomRefusal (kaBytes k a) out at)
 
 unfoldable pub rqRefusal : ℕ → List ℕ → ℕ → ℕ
 rqRefusal page out at = roomRefusal (rqBytes page) out at
+
+-- a run of no request is 13, first of all
+unfoldable pub rrRefusal : ℕ → ℕ → List ℕ → ℕ → ℕ
+rrRefusal page times out at = refuse (eqb times 0) 13 (roomRefusal (rrBytes page times) out at)
 
 unfoldable pub evRefusal : ℕ → List ℕ → List ℕ → ℕ → ℕ
 evRefusal t pages out at = refuse (pagesRefused (length pages)) 6 (roomRefusal (evBytes t pages) out at)

@@ -7,6 +7,8 @@ pub const KA: usize = 6;
 
 pub const RQ: usize = 6;
 
+pub const RR: usize = 8;
+
 pub const PF: usize = 10;
 
 // An EV's mark, t and n.

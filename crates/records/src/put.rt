@@ -3,9 +3,10 @@
 ghost use Prim.Native.Nat.{_+_, _*_, _≤_};
 ghost use mathlib.Core.Bool.{false};
 ghost use mathlib.Core.Path.{_≡_};
+ghost use lib.Dec.{eqb};
 ghost use lib.ListN.{length};
 ghost use Rattle.wire.specs.Numbers.{allBytes32, placed};
-ghost use Rattle.records.specs.Bytes.{kaBytes, rqBytes, evBytes, pfBytes};
+ghost use Rattle.records.specs.Bytes.{kaBytes, rqBytes, rrBytes, evBytes, pfBytes};
 ghost use Rattle.records.specs.Writing.{putLength, putBytes, pagesRefused};
 use crate::kind::Kind;
 use crate::length;
@@ -33,6 +34,23 @@ pub fn rq(rest: &mut [u8], page: u32) -> usize
     wire::write16(rest, 0, Kind::RQ);
     wire::write32(rest, 2, page);
     length::RQ
+}
+
+// A run of no request is not written either.
+pub fn rr(rest: &mut [u8], page: u32, times: u16) -> usize
+    ensures { λ r. ⌜ (r ≡ putLength (eqb times 0) (rrBytes page times) (now (rest .entry)))
+        × (now (rest .exit) ≡ putBytes (eqb times 0) (rrBytes page times) (now (rest .entry))) ⌝ }
+{
+    if times == 0 {
+        return 0;
+    }
+    if rest.len() < length::RR {
+        return 0;
+    }
+    wire::write16(rest, 0, Kind::RR);
+    wire::write32(rest, 2, page);
+    wire::write16(rest, 6, times);
+    length::RR
 }
 
 // An EV with no page or more than 256 is not written either.

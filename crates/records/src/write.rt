@@ -4,8 +4,8 @@ ghost use mathlib.Core.Path.{_≡_};
 ghost use lib.Dec.{ltb};
 ghost use Rattle.paging.specs.Refusals.{refuse};
 ghost use Rattle.records.specs.Answers.{writtenAnswer};
-ghost use Rattle.records.specs.Bytes.{kaBytes, rqBytes, evBytes, pfBytes};
-ghost use Rattle.records.specs.Writing.{kaRefusal, rqRefusal, evRefusal, pfRefusal, wrote, outAfter};
+ghost use Rattle.records.specs.Bytes.{kaBytes, rqBytes, rrBytes, evBytes, pfBytes};
+ghost use Rattle.records.specs.Writing.{kaRefusal, rqRefusal, rrRefusal, evRefusal, pfRefusal, wrote, outAfter};
 use crate::length;
 use crate::put;
 
@@ -40,6 +40,22 @@ pub fn rq(out: &mut [u8], at: usize, page: u32) -> Written
         return Written::Refused(no);
     }
     let size = put::rq(&mut out[at..], page);
+    Written::Next(at + size)
+}
+
+// So many requests for a page in a row: 13 for none, then 9, then 8.
+pub fn rr(out: &mut [u8], at: usize, page: u32, times: u16) -> Written
+    ensures { λ r. ⌜ (writtenAnswer r ≡ wrote (rrRefusal page times (now (out .entry)) at) (rrBytes page times) at)
+        × (now (out .exit) ≡ outAfter (rrRefusal page times (now (out .entry)) at) (rrBytes page times) (now (out .entry)) at) ⌝ }
+{
+    if times == 0 {
+        return Written::Refused(13);
+    }
+    let no = room(out.len(), at, length::RR);
+    if no != 0 {
+        return Written::Refused(no);
+    }
+    let size = put::rr(&mut out[at..], page, times);
     Written::Next(at + size)
 }
 

@@ -1,4 +1,3 @@
-mod ReadingLaws
 mod FiguresLaws
 pub mod Prefix
 pub mod Cases

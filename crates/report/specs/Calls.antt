@@ -10,7 +10,7 @@ use Rattle.paging.specs.Min.{bestCount, minLoads}
 use Rattle.paging.specs.Policy.{bundleCount, bundleCountBy, loadCount, loadCountBy}
 use Rattle.paging.specs.Table.{revealed, tabledAfter, nothingYet}
 use Rattle.paging.specs.declared.Keeping.the-variants.{ByLoad}
-use Rattle.report.specs.Traces.{TraceFile, whole, damaged, traceFile}
+use Rattle.traces.specs.Traces.{TraceFile, whole, damaged, traceFile}
 use Rattle.report.specs.declared.LayersFigures.{LayersFigures}
 use Rattle.report.specs.declared.PolicyFigures.{PolicyFigures}
 use Rattle.report.specs.declared.Report.{Report}
@@ -63,9 +63,9 @@ mostRequests = 4096
 unfoldable pub reportOf : List ℕ → Report
 reportOf input = reported (traceFile mostRequests input)
 
--- the bytes in which a request too many is seen whole: a KA, and one RQ more than the bench takes
+-- the bytes in which a request too many is seen whole: a KA, and one record more than the bench takes requests. An RR, of 8 bytes, is the longest
 abbrev pub inputBytes : ℕ
-inputBytes = 6 + 6 * (mostRequests + 1)
+inputBytes = 6 + 8 * (mostRequests + 1)
 
 -- so many bytes of an input are enough: whatever follows them, the report is the same
 abbrev pub ReadEnough : (bytes : ℕ) → (input : List ℕ) → Report → Type 0

@@ -1,9 +1,9 @@
 // The bench's figures for an input (document 01, "The eight-request shift"): one function on the input's bytes.
 ghost use mathlib.Core.Path.{_≡_};
 ghost use Rattle.report.specs.Calls.{reportOf, refusedReport, ReadEnough};
+use records::length;
 
 mod figures;
-mod input;
 
 // Bundles and loads of a policy.
 pub struct PolicyFigures {
@@ -34,8 +34,8 @@ impl Report {
     // The most requests that the bench takes.
     pub const LONGEST: usize = 4096;
 
-    // The bytes in which a request too many is seen whole: a KA and one RQ more than the bench takes.
-    pub const INPUT: usize = 6 + 6 * (Report::LONGEST + 1);
+    // The bytes in which a request too many is seen whole: a KA and one record more than the bench takes requests. An RR is the longest.
+    pub const INPUT: usize = length::KA + length::RR * (Report::LONGEST + 1);
 
     // A refusal.
     pub fn refused(number: u32) -> Report
@@ -69,10 +69,10 @@ pub fn of_input(input: &[u8]) -> Report
     ensures { λ r. do ⌜ ReadEnough (← ⟦Report::INPUT⟧ .entry) (now (input .entry)) r ⌝ }
 {
     let mut pages = [0u32; Report::LONGEST];
-    let read = input::trace(input, &mut pages);
-    if read.refusal != 0 {
-        return Report::refused(read.refusal);
+    let told = traces::fill(input, &mut pages);
+    if told.refusal != 0 {
+        return Report::refused(told.refusal);
     }
-    let n = read.requests;
-    figures::of(read.k, read.a, &pages[..n])
+    let n = told.requests;
+    figures::of(told.k, told.a, &pages[..n])
 }

@@ -4,13 +4,17 @@
 
 use bench_tests::damage::damage;
 use bench_tests::exported::judge::judge;
-use bench_tests::judge_cases::{cases, ev, ka, pf, trace_first};
-use bench_tests::model::files::{schedule_file, trace_file};
+use bench_tests::judge_cases::{
+    at_the_limit, cases, ev, inside_runs, ka, pf, rq, rr, trace_first, wrong_runs,
+};
+use bench_tests::model::files::{schedule_file, trace_file, trace_of};
 use bench_tests::model::{self, min, signed, TRACE_MAX};
 use bench_tests::report::{all_reached, differs, hex, tally_text};
 use bench_tests::rng::Rng;
 use bench_tests::schedules::{disturb, legal};
-use bench_tests::traces::{any, any_sizes, of_kind, scattered, sizes, KINDS};
+use bench_tests::traces::{
+    any, any_parked, any_sizes, edition, in_runs, of_kind, parked, scattered, sizes, KINDS,
+};
 
 #[derive(Default)]
 struct Judge {
@@ -19,18 +23,34 @@ struct Judge {
     tally: [usize; 21],
 }
 
+/// A pair of files, as a difference shows it.
+fn show(what: &str, trace: &[u8], schedule: &[u8]) -> [(&'static str, String); 3] {
+    [("kind", what.to_string()), ("trace", hex(trace)), ("schedule", hex(schedule))]
+}
+
 impl Judge {
     fn check(&mut self, what: &str, trace: &[u8], schedule: &[u8]) {
         let expected = signed(model::judge::judge(trace, schedule));
         self.expect(what, trace, schedule, expected);
     }
 
+    /// Compares on several editions of one trace, which have one answer.
+    fn same(&mut self, what: &str, editions: &[Vec<u8>], schedule: &[u8]) {
+        let expected = signed(model::judge::judge(&editions[0], schedule));
+        for trace in editions {
+            let modelled = signed(model::judge::judge(trace, schedule));
+            if modelled != expected {
+                differs("two editions, the model", &show(what, trace, schedule), &expected, &modelled);
+            }
+            self.expect(what, trace, schedule, expected);
+        }
+    }
+
     /// Compares with a given answer.
     fn expect(&mut self, what: &str, trace: &[u8], schedule: &[u8], expected: i64) {
         let got = judge(trace, schedule);
         if got != expected {
-            let input = [("kind", what.to_string()), ("trace", hex(trace)), ("schedule", hex(schedule))];
-            differs("judge", &input, &expected, &got);
+            differs("judge", &show(what, trace, schedule), &expected, &got);
         }
         self.pairs += 1;
         self.tally[usize::try_from(-expected).unwrap_or(0)] += 1;
@@ -43,7 +63,9 @@ fn named(judge: &mut Judge) {
         judge.expect(name, &trace, &schedule, answer);
         judge.check(name, &trace, &schedule);
     }
-    for (name, trace, schedule, answer) in trace_first() {
+    for (name, trace, schedule, answer) in
+        [trace_first(), inside_runs(), wrong_runs(), at_the_limit()].concat()
+    {
         judge.expect(name, &trace, &schedule, answer);
         judge.check(name, &trace, &schedule);
     }
@@ -64,10 +86,17 @@ fn small_entries() -> Vec<Vec<u8>> {
 /// Every schedule of up to three small entries, for a few traces.
 fn every_small_pair(judge: &mut Judge) {
     let entries = small_entries();
-    let traces: [&[u32]; 4] = [&[], &[1], &[1, 2], &[1, 2, 1]];
+    let traces = [
+        vec![],
+        rq(1),
+        [rq(1), rq(2)].concat(),
+        [rq(1), rq(2), rq(1)].concat(),
+        [rr(1, 2), rq(2)].concat(),
+        [rq(1), rr(2, 2)].concat(),
+    ];
     for (k, a) in [(1, 1), (2, 1), (2, 2), (3, 2)] {
-        for pages in traces {
-            let trace = trace_file(k, a, pages);
+        for records in &traces {
+            let trace = [&ka(k, a)[..], records].concat();
             for first in &entries {
                 for second in &entries {
                     let two = [ka(k, a), first.clone(), second.clone()].concat();
@@ -85,17 +114,19 @@ fn drawn(judge: &mut Judge, rng: &mut Rng) {
     for round in 0..40_000 {
         let (k, a) = sizes(rng);
         let n = if round % 50 == 0 { rng.between(50, 1_000) } else { rng.between(0, 24) };
-        let pages = any(k, a, n, rng);
+        let pages = if round % 2 == 0 { any(k, a, n, rng) } else { any_parked(k, a, n, rng) };
         let mut entries = legal(k, a, &pages, rng);
-        let trace = trace_file(k, a, &pages);
-        judge.check("legal", &trace, &schedule_file(k, a, &entries));
+        let editions = [trace_file(k, a, &pages), edition(k, a, &pages, rng)];
+        judge.same("legal", &editions, &schedule_file(k, a, &entries));
         for _ in 0..rng.between(1, 3) {
             disturb(&mut entries, &pages, rng);
-            judge.check("disturbed", &trace, &schedule_file(k, a, &entries));
+            judge.same("disturbed", &editions, &schedule_file(k, a, &entries));
         }
         let schedule = schedule_file(k, a, &entries);
-        judge.check("damaged schedule", &trace, &damage(&schedule, rng));
-        judge.check("damaged trace", &damage(&trace, rng), &schedule);
+        judge.same("damaged schedule", &editions, &damage(&schedule, rng));
+        for trace in &editions {
+            judge.check("damaged trace", &damage(trace, rng), &schedule);
+        }
     }
     for _ in 0..20_000 {
         let ((k, a), (other_k, other_a)) = (any_sizes(rng), any_sizes(rng));
@@ -104,15 +135,18 @@ fn drawn(judge: &mut Judge, rng: &mut Rng) {
     }
 }
 
-/// Each cut of one pair.
+/// Each cut of one pair, the trace in two editions.
 fn every_cut(judge: &mut Judge, rng: &mut Rng) {
-    let pages = any(3, 2, 30, rng);
-    let (trace, schedule) = (trace_file(3, 2, &pages), schedule_file(3, 2, &legal(3, 2, &pages, rng)));
-    for cut in 0..trace.len() {
-        judge.check("trace cut", &trace[..cut], &schedule);
+    let pages = any_parked(3, 2, 30, rng);
+    let editions = [trace_file(3, 2, &pages), edition(3, 2, &pages, rng)];
+    let schedule = schedule_file(3, 2, &legal(3, 2, &pages, rng));
+    for trace in &editions {
+        for cut in 0..trace.len() {
+            judge.check("trace cut", &trace[..cut], &schedule);
+        }
     }
     for cut in 0..schedule.len() {
-        judge.check("schedule cut", &trace, &schedule[..cut]);
+        judge.same("schedule cut", &editions, &schedule[..cut]);
     }
 }
 
@@ -129,14 +163,23 @@ fn full_size(judge: &mut Judge, rng: &mut Rng) {
             judge.check("full size, disturbed", &trace, &schedule_file(k, a, &entries));
         }
     }
-    let pages = vec![7; TRACE_MAX];
-    let most = trace_file(2, 1, &pages);
-    let last = TRACE_MAX as u32;
-    judge.expect("65536 requests", &most, &ka(2, 1), 0);
-    judge.expect("the last request", &most, &[ka(2, 1), ev(last - 1, &[7])].concat(), 1);
-    judge.expect("behind the last", &most, &[ka(2, 1), ev(last, &[7])].concat(), -6);
-    for (tail, answer) in [(&b"RQ\0\0\0\0"[..], -3), (b"RQ\0\0\0\0X", -3), (b"RQ\0\0\0", -5), (b"RR\0", -4)] {
-        judge.expect("65537 requests", &[&most[..], tail].concat(), &[], answer);
+}
+
+/// As many requests as are taken, with long runs, in three editions.
+fn full_size_runs(judge: &mut Judge, rng: &mut Rng) {
+    for (kind, (k, a)) in KINDS.into_iter().zip([(256, 1), (256, 100), (3, 2), (40, 40)]) {
+        let ordinary = of_kind(kind, k, a, TRACE_MAX, rng, scattered);
+        let pages = parked(&ordinary, 16, 1_000, rng);
+        let editions =
+            [trace_file(k, a, &pages), trace_of(k, a, &in_runs(&pages)), edition(k, a, &pages, rng)];
+        let best = min::run(k, a, &pages).expect("k and a are sound").bundles;
+        for trace in &editions {
+            judge.expect("long runs", trace, &min::schedule(k, a, &best), best.len() as i64);
+        }
+        let mut entries = legal(k, a, &pages, rng);
+        judge.same("long runs, legal", &editions, &schedule_file(k, a, &entries));
+        disturb(&mut entries, &pages, rng);
+        judge.same("long runs, disturbed", &editions, &schedule_file(k, a, &entries));
     }
 }
 
@@ -208,8 +251,9 @@ fn main() {
     every_cut(&mut judge, &mut rng);
     drawn(&mut judge, &mut rng);
     full_size(&mut judge, &mut rng);
+    full_size_runs(&mut judge, &mut rng);
     many_fetches(&mut judge);
     fetches_beyond_the_buffer(&mut judge, &mut rng);
-    all_reached("judge", &[0, 1, 2, 3, 4, 5, 6, 7], &judge.tally);
+    all_reached("judge", &[0, 1, 2, 3, 4, 5, 6, 7, 13], &judge.tally);
     println!("judge: {} pairs of files agree ({})", judge.pairs, tally_text(&"refusals", &judge.tally[..]));
 }

@@ -8,10 +8,11 @@
 //!   continuation without repeats; on those of up to 3, for some continuation of up to 4 requests as well.
 //!   One more request lifts its page exactly if MIN may hold it, else joins exactly if the least cost rises.
 //! - On every file of up to two entries for traces of up to 3 requests, with k up to 2, the judge answers a
-//!   cost exactly if the entries are legal by document 01's paragraph, and that cost.
+//!   cost exactly if the entries are legal by document 01's paragraph, and that cost: for every way to write
+//!   the trace in RQs and RRs.
 
 use bench_tests::model::fifo::Fifo;
-use bench_tests::model::files::{schedule_file, trace_file, Entry};
+use bench_tests::model::files::{schedule_file, trace_of, Asked, Entry};
 use bench_tests::model::layers::{self, Layers, Possible, Rule};
 use bench_tests::model::lru::Lru;
 use bench_tests::model::queue::{self, Policy};
@@ -218,15 +219,37 @@ fn legal_cost(k: u32, a: u32, trace: &[u32], entries: &[Entry]) -> Option<u32> {
     }
 }
 
-fn check_files(k: u32, a: u32, trace: &[u32], entries: &[Entry]) {
-    let (trace_bytes, schedule) = (trace_file(k, a, trace), schedule_file(k, a, entries));
-    let judged = judge::judge(&trace_bytes, &schedule).ok();
-    let legal = legal_cost(k, a, trace, entries);
-    if judged != legal {
-        let mut input = show(k, a, trace);
-        input.push(("entries", format!("{:?}", entries)));
-        differs("the judge accepts the legal schedules", &input, &legal, &judged);
+/// Every way to write a trace in records: requests of one page in a row cut anywhere, a single one as RQ or
+/// as RR.
+fn editions(trace: &[u32]) -> Vec<Vec<Asked>> {
+    let page = match trace.first() {
+        None => return vec![vec![]],
+        Some(&page) => page,
+    };
+    let stretch = trace.iter().take_while(|&&other| other == page).count();
+    let runs = (1..=stretch).map(|times| Asked::Rr { page, times: times as u16 });
+    let mut out = Vec::new();
+    for first in runs.chain([Asked::Rq { page }]) {
+        let rests = editions(&trace[first.requests()..]);
+        out.extend(rests.into_iter().map(|rest| [&[first][..], &rest].concat()));
     }
+    out
+}
+
+/// Judges a schedule beside every edition of a trace; the number of them.
+fn check_files(k: u32, a: u32, trace: &[u32], editions: &[Vec<Asked>], entries: &[Entry]) -> usize {
+    let schedule = schedule_file(k, a, entries);
+    let legal = legal_cost(k, a, trace, entries);
+    for edition in editions {
+        let judged = judge::judge(&trace_of(k, a, edition), &schedule).ok();
+        if judged != legal {
+            let mut input = show(k, a, trace);
+            input.push(("records", format!("{:?}", edition)));
+            input.push(("entries", format!("{:?}", entries)));
+            differs("the judge accepts the legal schedules", &input, &legal, &judged);
+        }
+    }
+    editions.len()
 }
 
 /// Files of up to two entries for traces of up to three requests; the number tried.
@@ -234,15 +257,16 @@ fn try_files() -> usize {
     let mut tried = 0;
     for trace in lists(2, 3) {
         let choices = all_entries(trace.len() as u32);
+        let editions = editions(&trace);
         for (k, a) in [(1, 1), (2, 1), (2, 2)] {
-            check_files(k, a, &trace, &[]);
+            tried += check_files(k, a, &trace, &editions, &[]);
             for first in &choices {
-                check_files(k, a, &trace, std::slice::from_ref(first));
+                tried += check_files(k, a, &trace, &editions, std::slice::from_ref(first));
                 for second in &choices {
-                    check_files(k, a, &trace, &[first.clone(), second.clone()]);
+                    let both = [first.clone(), second.clone()];
+                    tried += check_files(k, a, &trace, &editions, &both);
                 }
             }
-            tried += 1 + choices.len() * (choices.len() + 1);
         }
     }
     tried

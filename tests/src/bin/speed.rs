@@ -8,7 +8,7 @@ use bench_tests::calls::queue::Exported;
 use bench_tests::exported::exports;
 use bench_tests::exported::judge::judge;
 use bench_tests::model::fifo::Fifo;
-use bench_tests::model::files::{schedule_file, trace_file, Entry};
+use bench_tests::model::files::{schedule_file, trace_file, trace_of, Entry};
 use bench_tests::model::lru::Lru;
 use bench_tests::model::queue::Record;
 use bench_tests::model::{layers, BENCH_MAX, TRACE_MAX};
@@ -16,7 +16,7 @@ use bench_tests::plain;
 use bench_tests::rng::Rng;
 use bench_tests::schedules::legal;
 use bench_tests::timing::{opaque, Table, REPEATS};
-use bench_tests::traces::{of_kind, scattered, Kind, KINDS};
+use bench_tests::traces::{in_runs, of_kind, parked, scattered, Kind, KINDS};
 use std::io::Write;
 use std::process::{Command, Stdio};
 
@@ -49,6 +49,21 @@ fn traces(a: u32, n: usize) -> Vec<(String, Vec<u32>)> {
     out
 }
 
+/// A trace of a parked tug: between ordinary requests of few pages, one page many times in a row.
+fn tug(a: u32, n: usize) -> Vec<u32> {
+    let mut rng = Rng::new(6);
+    let ordinary = of_kind(Kind::Few, K, a, n, &mut rng, scattered);
+    parked(&ordinary, 16, n / 64, &mut rng)
+}
+
+/// A trace in single records and in runs, with the names of the rows that time both.
+fn two_editions(a: u32, pages: &[u32]) -> [(String, Vec<u8>); 2] {
+    [
+        (format!("a {}, as single records", a), trace_file(K, a, pages)),
+        (format!("a {}, as runs", a), trace_of(K, a, &in_runs(pages))),
+    ]
+}
+
 /// Runs a program on an input and gives its output.
 fn output(program: &str, input: &[u8]) -> String {
     let mut child = Command::new(program)
@@ -65,13 +80,17 @@ fn output(program: &str, input: &[u8]) -> String {
 
 fn time_bench(table: &mut Table, program: &str, plain_program: &str) {
     let mut inputs = vec![("no request".to_string(), trace_file(K, 1, &[]))];
+    let mut tugs = Vec::new();
     for a in [1, 64] {
         let named = traces(a, BENCH_MAX).into_iter();
         inputs.extend(named.map(|(name, pages)| (name, trace_file(K, a, &pages))));
+        tugs.extend(two_editions(a, &tug(a, BENCH_MAX)));
     }
-    for (name, input) in inputs {
-        let (ours, plain) = (&mut || output(program, &input), &mut || output(plain_program, &input));
-        table.row("bench on 4,096 requests", name, 1, ours, plain);
+    for (job, inputs) in [("bench on 4,096 requests", inputs), ("bench, parked tug", tugs)] {
+        for (name, input) in inputs {
+            let (ours, plain) = (&mut || output(program, &input), &mut || output(plain_program, &input));
+            table.row(job, name, 1, ours, plain);
+        }
     }
 }
 
@@ -271,22 +290,33 @@ fn time_layers_requests(table: &mut Table) {
     }
 }
 
+/// Files of one trace, with their names, each beside MIN's schedule and a drawn one.
+fn time_files(table: &mut Table, job: &'static str, a: u32, pages: &[u32], files: &[(String, Vec<u8>)]) {
+    let best = plain::min::schedule(K, a, pages);
+    let drawn = schedule_file(K, a, &legal(K, a, pages, &mut Rng::new(5)));
+    for (whose, schedule) in [("MIN's schedule", &best), ("a drawn schedule", &drawn)] {
+        for (name, trace) in files {
+            table.row(
+                job,
+                format!("{}, {}", name, whose),
+                1,
+                &mut || judge(opaque(trace), opaque(schedule)),
+                &mut || plain::judge::judge(opaque(trace), opaque(schedule)).map_or(-1, i64::from),
+            );
+        }
+    }
+}
+
 fn time_judge(table: &mut Table) {
     for a in [1, 64] {
         for (name, pages) in traces(a, TRACE_MAX) {
-            let trace = trace_file(K, a, &pages);
-            let best = plain::min::schedule(K, a, &pages);
-            let drawn = schedule_file(K, a, &legal(K, a, &pages, &mut Rng::new(5)));
-            for (whose, schedule) in [("MIN's schedule", best), ("a drawn schedule", drawn)] {
-                table.row(
-                    "judge",
-                    format!("{}, {}", name, whose),
-                    1,
-                    &mut || judge(opaque(&trace), opaque(&schedule)),
-                    &mut || plain::judge::judge(opaque(&trace), opaque(&schedule)).map_or(-1, i64::from),
-                );
-            }
+            let file = trace_file(K, a, &pages);
+            time_files(table, "judge", a, &pages, &[(name, file)]);
         }
+    }
+    for a in [1, 64] {
+        let pages = tug(a, TRACE_MAX);
+        time_files(table, "judge, parked tug", a, &pages, &two_editions(a, &pages));
     }
 }
 

@@ -185,6 +185,93 @@ fn layer_rules(cases: &mut Cases) {
     cases.same("a sum of 2^32", revealed(0, 0, [u32::MAX, 0, 1]), Err(9));
 }
 
+/// A run of one page stands for its single requests: the same lines, whatever records a trace is in.
+fn runs(cases: &mut Cases) {
+    let run = |page, times| files::Asked::Rr { page, times };
+    let one = |page| files::Asked::Rq { page };
+    let tug = files::trace_of(3, 2, &[run(5, 3)]);
+    cases.same("5 x 3's bytes", tug.clone(), b"KA\x03\0\x02\0RR\x05\0\0\0\x03\0".to_vec());
+    let line = "trace 3 2 3\nmin 0 1\nlru 0 1\nfifo 0 1\nlayers 0 1 1\n".to_string();
+    cases.same("5 x 3", lines::lines(&tug), line.clone());
+    cases.same("5 5 5", lines::lines(&files::trace_file(3, 2, &[5, 5, 5])), line.clone());
+    cases.same("5 x 2, 5", lines::lines(&files::trace_of(3, 2, &[run(5, 2), one(5)])), line.clone());
+    cases.same("5 x 1, 5 x 2", lines::lines(&files::trace_of(3, 2, &[run(5, 1), run(5, 2)])), line);
+    let shift = files::trace_of(3, 2, &SHIFT.map(|page| run(page, 1)));
+    cases.same("the shift in runs of one, bytes", shift.len(), 70);
+    cases.same(
+        "the shift in runs of one",
+        files::read_trace(&shift, 8).map(|trace| trace.pages),
+        Ok(SHIFT.to_vec()),
+    );
+    let parked =
+        files::trace_of(3, 2, &[one(1), one(2), one(3), one(4), run(2, 300), one(5), one(6), run(1, 2)]);
+    cases.same("the shift with a parked tug, bytes", parked.len(), 58);
+    cases.same(
+        "the shift with a parked tug",
+        lines::lines(&parked),
+        "trace 3 2 308\nmin 2 7\nlru 3 8\nfifo 3 8\nlayers 2 3 2\n".to_string(),
+    );
+    let best = files::read_trace(&parked, 308).and_then(|trace| min::run(3, 2, &trace.pages));
+    cases.same("its bundles", best.map(|run| run.bundles), Ok(vec![(3, vec![3, 1]), (305, vec![2, 4])]));
+}
+
+/// The reader and the writer of an RR, and which refusal comes first.
+fn run_records(cases: &mut Cases) {
+    let file = b"KA\x03\0\x02\0RR\x05\0\0\0\x02\x01RQ\x05\0\0\0RR\x05\0\0\0\0\0";
+    let found = |page, times, next| Ok(files::Found::Request { page, times, next });
+    cases.same("a run, read", files::trace_record(file, 6), found(5, 258, 14));
+    cases.same("a request, read", files::trace_record(file, 14), found(5, 1, 20));
+    cases.same("no times", files::trace_record(file, 20), Err(13));
+    cases.same("no times, cut", files::trace_record(&file[..27], 20), Err(5));
+    cases.same("a run cut to its mark", files::trace_record(&file[..8], 6), Err(5));
+    cases.same("a run cut to a byte", files::trace_record(&file[..7], 6), Err(5));
+    cases.same("a run first", files::trace_record(&file[6..], 0), Err(4));
+    cases.same("a run's mark first", files::trace_record(b"RR", 0), Err(4));
+    cases.same("a run in a schedule", files::schedule_record(file, 6, 256), Err(4));
+    cases.same("a run's mark in a schedule", files::schedule_record(&file[..8], 6, 256), Err(4));
+    let mut bytes = [7; 10];
+    cases.same("13 before 9", files::write_run(&mut bytes, 11, 5, 0), Err(13));
+    cases.same("13 before 8", files::write_run(&mut bytes, 3, 5, 0), Err(13));
+    cases.same("9", files::write_run(&mut bytes, 11, 5, 1), Err(9));
+    cases.same("8", files::write_run(&mut bytes, 3, 5, 1), Err(8));
+    cases.same("nothing written", bytes, [7; 10]);
+    cases.same("written", files::write_run(&mut bytes, 1, 5, 258), Ok(9));
+    cases.same("its bytes", bytes, *b"\x07RR\x05\0\0\0\x02\x01\x07");
+}
+
+/// Traces with runs at the limit of requests, and schedules with records inside runs.
+fn run_limits(cases: &mut Cases) {
+    let head = files::trace_of(2, 1, &[files::Asked::Rr { page: 7, times: 3 }]);
+    let read = |tail: &[u8], most| {
+        let trace = files::read_trace(&[&head[..], tail].concat(), most);
+        trace.map(|trace| trace.pages.len())
+    };
+    let none = b"RR\x07\0\0\0\0\0";
+    let (one, two) = (b"RR\x07\0\0\0\x01\0", b"RR\x07\0\0\0\x02\0XX");
+    cases.same("the limit met", read(b"", 3), Ok(3));
+    cases.same("the limit passed by a run", read(b"", 2), Err(3));
+    cases.same("3 whatever follows", read(none, 2), Err(3));
+    cases.same("no times behind the limit", read(none, 3), Err(13));
+    cases.same("a cut run behind the limit", read(&none[..7], 3), Err(5));
+    cases.same("no mark behind the limit", read(b"XX", 3), Err(4));
+    cases.same("one more meets it", read(one, 4), Ok(4));
+    cases.same("two more pass it", read(two, 4), Err(3));
+    cases.same("two more meet it", read(two, 5), Err(4));
+    let mut list = [9; 5];
+    cases.same("a list too short", files::fill_trace(&head, &mut list[..2]), Err(3));
+    cases.same("it is left", list, [9; 5]);
+    cases.same("a list", files::fill_trace(&head, &mut list).map(|trace| trace.pages.len()), Ok(3));
+    cases.same("its first places", list, [7, 7, 7, 9, 9]);
+    let judged = |t, page| {
+        let entries = [files::Entry::Ev { t, pages: vec![page] }];
+        judge::judge(&head, &files::schedule_file(2, 1, &entries))
+    };
+    cases.same("an EV inside a run", judged(1, 7), Ok(1));
+    cases.same("an EV at its first request", judged(0, 7), Err(6));
+    cases.same("an EV at its last request", judged(2, 7), Ok(1));
+    cases.same("an EV behind it", judged(3, 7), Err(6));
+}
+
 fn main() {
     let mut cases = Cases(0);
     marked(&mut cases);
@@ -194,5 +281,8 @@ fn main() {
     places::<Fifo>(&mut cases, "oldest load");
     oldest_load(&mut cases);
     layer_rules(&mut cases);
+    runs(&mut cases);
+    run_records(&mut cases);
+    run_limits(&mut cases);
     println!("worked cases: {} agree", cases.0);
 }

@@ -1,8 +1,8 @@
-//! The readers and the writers of records.
+//! The readers and the writers of records, and the calls on a whole trace file.
 
 use super::{Answer, Call, Lent};
 use crate::exported::exports;
-use crate::model::files::{self, Entry, Found};
+use crate::model::files::{self, Entry, Found, Trace};
 use crate::model::{Refusal, K_MAX};
 
 /// What every reader answers. The static library numbers the cases from 1 on, and 0 is a refusal.
@@ -13,7 +13,10 @@ fn told(found: Result<Found, Refusal>) -> Answer {
         Ok(Found::Sizes { k, a, next }) => {
             Answer::told("KA", &[2, u64::from(k), u64::from(a), next as u64, 0])
         }
-        Ok(Found::Request { page, next }) => Answer::told("RQ", &[3, u64::from(page), next as u64, 0, 0]),
+        Ok(Found::Request { page, times, next }) => {
+            let kind = if times == 1 { "one request" } else { "run" };
+            Answer::told(kind, &[3, u64::from(page), u64::from(times), next as u64, 0])
+        }
         Ok(Found::Bundle { t, n, from, next }) => {
             Answer::told("EV", &[4, u64::from(t), u64::from(n), from as u64, next as u64])
         }
@@ -73,8 +76,10 @@ fn schedule_record(file: &[u8], at: usize) -> Result<Found, Refusal> {
     files::schedule_record(file, at, K_MAX)
 }
 
-reader!(ReadTrace, read_trace, [9, 4, 5, 1, 2], ["end", "KA", "RQ"], files::trace_record);
-reader!(TraceReader, trace_reader, [9, 4, 5, 1, 2], ["end", "KA", "RQ"], files::trace_record);
+const IN_TRACES: [&str; 4] = ["end", "KA", "one request", "run"];
+
+reader!(ReadTrace, read_trace, [9, 4, 5, 1, 2, 13], IN_TRACES, files::trace_record);
+reader!(TraceReader, trace_reader, [9, 4, 5, 1, 2, 13], IN_TRACES, files::trace_record);
 reader!(ReadSchedule, read_schedule, [9, 4, 5, 1, 2, 6], ["end", "KA", "EV", "PF"], schedule_record);
 reader!(ScheduleReader, schedule_reader, [9, 4, 5, 1, 2, 6], ["end", "KA", "EV", "PF"], schedule_record);
 
@@ -97,6 +102,60 @@ impl Call for ReadScheduleWithin {
 
     fn exported(&mut self, out: &mut [u64]) {
         exports::read_schedule_within(self.file.list(), self.at, self.bound, out);
+    }
+}
+
+/// What both calls on a whole trace file answer: k, a, and the number of single requests.
+fn whole(trace: Result<Trace, Refusal>, most: usize) -> Answer {
+    match trace {
+        Err(refusal) => Answer::refused(refusal, 4),
+        Ok(Trace { k, a, pages }) => {
+            let kind = if pages.len() == most { "at the limit" } else { "below it" };
+            Answer::told(kind, &[0, u64::from(k), u64::from(a), pages.len() as u64])
+        }
+    }
+}
+
+/// A trace file judged whole, with a limit of requests.
+#[derive(Clone, Debug, PartialEq, Eq)]
+pub struct TraceCount {
+    pub file: Lent<u8>,
+    pub most: usize,
+}
+
+impl Call for TraceCount {
+    const NAME: &'static str = "trace_count";
+    const REFUSALS: &'static [Refusal] = &[4, 5, 1, 2, 13, 3];
+    const KINDS: &'static [&'static str] = &["at the limit", "below it"];
+
+    fn expected(&mut self) -> Answer {
+        whole(files::read_trace(self.file.list(), self.most), self.most)
+    }
+
+    fn exported(&mut self, out: &mut [u64]) {
+        exports::trace_count(self.file.list(), self.most, out);
+    }
+}
+
+/// The same with the length of a lent list as the limit; the list gets the pages of all requests.
+#[derive(Clone, Debug, PartialEq, Eq)]
+pub struct TraceFill {
+    pub file: Lent<u8>,
+    pub pages: Lent<u32>,
+}
+
+impl Call for TraceFill {
+    const NAME: &'static str = "trace_fill";
+    const REFUSALS: &'static [Refusal] = TraceCount::REFUSALS;
+    const KINDS: &'static [&'static str] = TraceCount::KINDS;
+
+    fn expected(&mut self) -> Answer {
+        let trace = files::fill_trace(self.file.list(), self.pages.list_mut());
+        whole(trace, self.pages.list().len())
+    }
+
+    fn exported(&mut self, out: &mut [u64]) {
+        exports::trace_fill(self.file.list(), self.pages.list_mut(), out);
     }
 }
 
@@ -180,6 +239,28 @@ impl Call for WriteRq {
 
     fn exported(&mut self, out: &mut [u64]) {
         exports::write_rq(self.bytes.list_mut(), self.at, self.page, out);
+    }
+}
+
+#[derive(Clone, Debug, PartialEq, Eq)]
+pub struct WriteRr {
+    pub bytes: Lent<u8>,
+    pub at: usize,
+    pub page: u32,
+    pub times: u16,
+}
+
+impl Call for WriteRr {
+    const NAME: &'static str = "write_rr";
+    const REFUSALS: &'static [Refusal] = &[13, 9, 8];
+    const KINDS: &'static [&'static str] = &["written"];
+
+    fn expected(&mut self) -> Answer {
+        written(files::write_run(self.bytes.list_mut(), self.at, self.page, self.times))
+    }
+
+    fn exported(&mut self, out: &mut [u64]) {
+        exports::write_rr(self.bytes.list_mut(), self.at, self.page, self.times, out);
     }
 }
 

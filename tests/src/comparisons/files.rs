@@ -2,12 +2,12 @@
 
 use crate::calls::files::*;
 use crate::calls::{Lent, Reached};
-use crate::damage::damage;
+use crate::damage::damaged;
 use crate::model::files::{schedule_file, trace_file, Entry};
 use crate::rng::Rng;
 use crate::schedules::legal;
 use crate::states::{border_sizes, end_page};
-use crate::traces::{any, any_sizes, sizes};
+use crate::traces::{any, any_parked, any_sizes, edition, sizes};
 
 /// Every reader at an offset.
 fn read_at(reached: &mut Reached, file: &Lent<u8>, at: usize, bound: u32) {
@@ -19,7 +19,7 @@ fn read_at(reached: &mut Reached, file: &Lent<u8>, at: usize, bound: u32) {
 }
 
 /// Every reader at every offset of a file, and past its end.
-fn read_all(reached: &mut Reached, bytes: &[u8], rng: &mut Rng) {
+pub fn read_all(reached: &mut Reached, bytes: &[u8], rng: &mut Rng) {
     let file = Lent::new(bytes);
     reached.compare(&ReadKa { file: file.clone() });
     let past = [bytes.len() + 1, bytes.len() + 2, usize::MAX - 7, usize::MAX];
@@ -35,13 +35,16 @@ fn read_all(reached: &mut Reached, bytes: &[u8], rng: &mut Rng) {
     }
 }
 
-/// A file of either kind, at times with refused sizes, at times with entries that no buffer allows.
+/// A file of either kind, a trace with or without runs, at times with refused sizes, at times with entries
+/// that no buffer allows.
 fn drawn_file(rng: &mut Rng) -> Vec<u8> {
     let (k, a) = sizes(rng);
     let trace = any(k, a, rng.below(8), rng);
     let (told_k, told_a) = if rng.once_in(3) { any_sizes(rng) } else { (k, a) };
-    if rng.once_in(2) {
-        return trace_file(told_k, told_a, &trace);
+    match rng.below(3) {
+        0 => return trace_file(told_k, told_a, &trace),
+        1 => return edition(told_k, told_a, &any_parked(k, a, 16, rng), rng),
+        _ => {}
     }
     let mut entries = legal(k, a, &trace, rng);
     entries.truncate(8);
@@ -53,11 +56,8 @@ fn drawn_file(rng: &mut Rng) -> Vec<u8> {
 }
 
 fn readers(reached: &mut Reached, rng: &mut Rng) {
-    for turn in 0..900 {
-        let mut file = drawn_file(rng);
-        for _ in 0..turn % 3 {
-            file = damage(&file, rng);
-        }
+    for turn in 0..1_350 {
+        let mut file = damaged(&drawn_file(rng), turn % 3, rng);
         file.truncate(180);
         read_all(reached, &file, rng);
     }
@@ -103,6 +103,9 @@ fn writers(reached: &mut Reached, rng: &mut Rng) {
         for at in offsets(length, 12) {
             let (t, page) = (rng.word(), rng.pick(&[0, 1, u32::MAX, 0x0102_0304]));
             reached.compare(&WriteRq { bytes: bytes.clone(), at, page });
+            for times in [0, 1, 2, 255, 256, 65_535] {
+                reached.compare(&WriteRr { bytes: bytes.clone(), at, page, times });
+            }
             reached.compare(&WritePf { bytes: bytes.clone(), at, t, page });
             for (k, a) in [(1, 1), (256, 1), (256, 256), (0, 1), (257, 1), (3, 0), (3, 4), (65_536 + 3, 2)] {
                 reached.compare(&WriteKa { bytes: bytes.clone(), at, k, a });

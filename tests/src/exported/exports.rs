@@ -92,6 +92,15 @@ mod c {
         pub fn read_ka(file: Bytes, file_len: usize, out: Out, out_len: usize);
         pub fn read_trace(file: Bytes, file_len: usize, at: usize, out: Out, out_len: usize);
         pub fn trace_reader(file: Bytes, file_len: usize, at: usize, out: Out, out_len: usize);
+        pub fn trace_count(file: Bytes, file_len: usize, most: usize, out: Out, out_len: usize);
+        pub fn trace_fill(
+            file: Bytes,
+            file_len: usize,
+            pages: NumbersMut,
+            pages_len: usize,
+            out: Out,
+            out_len: usize,
+        );
         pub fn read_schedule(file: Bytes, file_len: usize, at: usize, out: Out, out_len: usize);
         pub fn read_schedule_within(
             file: Bytes,
@@ -122,6 +131,15 @@ mod c {
             out_len: usize,
         );
         pub fn write_rq(bytes: BytesMut, bytes_len: usize, at: usize, page: u32, out: Out, out_len: usize);
+        pub fn write_rr(
+            bytes: BytesMut,
+            bytes_len: usize,
+            at: usize,
+            page: u32,
+            times: u16,
+            out: Out,
+            out_len: usize,
+        );
         pub fn write_ev(
             bytes: BytesMut,
             bytes_len: usize,
@@ -340,7 +358,7 @@ pub fn layers_over_trace(
     }
 }
 
-/// What every reader stores: 0 and a refusal; 1 at the end; 2, k, a, next; 3, page, next;
+/// What every reader stores: 0 and a refusal; 1 at the end; 2, k, a, next; 3, page, times, next;
 /// 4, t, n, from, next; 5, t, page, next.
 pub fn read_ka(file: &[u8], out: &mut [u64]) {
     unsafe { c::read_ka(file.as_ptr(), file.len(), out.as_mut_ptr(), out.len()) }
@@ -352,6 +370,18 @@ pub fn read_trace(file: &[u8], at: usize, out: &mut [u64]) {
 
 pub fn trace_reader(file: &[u8], at: usize, out: &mut [u64]) {
     unsafe { c::trace_reader(file.as_ptr(), file.len(), at, out.as_mut_ptr(), out.len()) }
+}
+
+/// Refusal, k, a, requests.
+pub fn trace_count(file: &[u8], most: usize, out: &mut [u64]) {
+    unsafe { c::trace_count(file.as_ptr(), file.len(), most, out.as_mut_ptr(), out.len()) }
+}
+
+/// Refusal, k, a, requests.
+pub fn trace_fill(file: &[u8], pages: &mut [u32], out: &mut [u64]) {
+    unsafe {
+        c::trace_fill(file.as_ptr(), file.len(), pages.as_mut_ptr(), pages.len(), out.as_mut_ptr(), out.len())
+    }
 }
 
 pub fn read_schedule(file: &[u8], at: usize, out: &mut [u64]) {
@@ -389,6 +419,10 @@ pub fn write_ka(bytes: &mut [u8], at: usize, k: u32, a: u32, out: &mut [u64]) {
 
 pub fn write_rq(bytes: &mut [u8], at: usize, page: u32, out: &mut [u64]) {
     unsafe { c::write_rq(bytes.as_mut_ptr(), bytes.len(), at, page, out.as_mut_ptr(), out.len()) }
+}
+
+pub fn write_rr(bytes: &mut [u8], at: usize, page: u32, times: u16, out: &mut [u64]) {
+    unsafe { c::write_rr(bytes.as_mut_ptr(), bytes.len(), at, page, times, out.as_mut_ptr(), out.len()) }
 }
 
 pub fn write_ev(bytes: &mut [u8], at: usize, t: u32, pages: &[u32], out: &mut [u64]) {

@@ -1,4 +1,4 @@
-//! Files: the four records, read one by one, and written.
+//! Files: the five records, read one by one, and written.
 
 use super::{check_sizes, Refusal, K_MAX};
 
@@ -10,6 +10,23 @@ pub struct Trace {
     pub pages: Vec<u32>,
 }
 
+/// A record of a trace after its KA: a request of a page, or as many in a row as its times says.
+#[derive(Clone, Copy, Debug, PartialEq, Eq)]
+pub enum Asked {
+    Rq { page: u32 },
+    Rr { page: u32, times: u16 },
+}
+
+impl Asked {
+    /// The number of single requests that it stands for.
+    pub fn requests(self) -> usize {
+        match self {
+            Asked::Rq { .. } => 1,
+            Asked::Rr { times, .. } => usize::from(times),
+        }
+    }
+}
+
 /// A record of a schedule after its KA.
 #[derive(Clone, Debug, PartialEq, Eq)]
 pub enum Entry {
@@ -17,13 +34,13 @@ pub enum Entry {
     Pf { t: u32, page: u32 },
 }
 
-/// What a reader finds at an offset of a file, with the offset behind it. An EV's n pages start at
-/// `from`.
+/// What a reader finds at an offset of a file, with the offset behind it. A request's times are 1 for an RQ.
+/// An EV's n pages start at `from`.
 #[derive(Clone, Copy, Debug, PartialEq, Eq)]
 pub enum Found {
     End,
     Sizes { k: u32, a: u32, next: usize },
-    Request { page: u32, next: usize },
+    Request { page: u32, times: u32, next: usize },
     Bundle { t: u32, n: u32, from: usize, next: usize },
     Fetch { t: u32, page: u32, next: usize },
 }
@@ -86,10 +103,17 @@ impl<'a> Cursor<'a> {
         Ok((k, a))
     }
 
-    /// An RQ record's page.
-    fn request(&mut self) -> Result<u32, Refusal> {
-        self.mark(&[b"RQ"])?;
-        self.number(4)
+    /// The page of an RQ or RR record and its times, 1 for an RQ: 4 and 5, then 13.
+    fn request(&mut self) -> Result<(u32, u32), Refusal> {
+        if self.mark(&[b"RQ", b"RR"])? == b"RQ" {
+            return Ok((self.number(4)?, 1));
+        }
+        let mut fields = Cursor::new(self.take(6)?);
+        let (page, times) = (fields.number(4)?, fields.number(2)?);
+        if times == 0 {
+            return Err(13);
+        }
+        Ok((page, times))
     }
 
     /// An EV or PF record, in the order mark, fixed fields, n, pages; n is at most `most`.
@@ -110,19 +134,27 @@ impl<'a> Cursor<'a> {
     }
 }
 
-/// Reads a trace of at most `most` requests. A request too many is judged for 4 and 5 before 3.
+/// Reads a trace of at most `most` requests, a run as its single ones. A record with one too many is judged
+/// for 4, 5 and 13 before 3, and is 3 as a whole.
 pub fn read_trace(bytes: &[u8], most: usize) -> Result<Trace, Refusal> {
     let mut file = Cursor::new(bytes);
     let (k, a) = file.sizes()?;
     let mut pages = Vec::new();
     while !file.at_end() {
-        let page = file.request()?;
-        if pages.len() == most {
+        let (page, times) = file.request()?;
+        if times as usize > most - pages.len() {
             return Err(3);
         }
-        pages.push(page);
+        pages.extend((0..times).map(|_| page));
     }
     Ok(Trace { k, a, pages })
+}
+
+/// Reads a trace of at most as many requests as the list has places, their pages into its first ones.
+pub fn fill_trace(bytes: &[u8], list: &mut [u32]) -> Result<Trace, Refusal> {
+    let trace = read_trace(bytes, list.len())?;
+    list[..trace.pages.len()].copy_from_slice(&trace.pages);
+    Ok(trace)
 }
 
 /// The KA at the start of a file.
@@ -132,7 +164,7 @@ pub fn start(file: &[u8]) -> Result<Found, Refusal> {
     Ok(Found::Sizes { k, a, next: cursor.offset(file) })
 }
 
-/// The trace reader: at offset 0 it expects KA, elsewhere RQ or the end.
+/// The trace reader: at offset 0 it expects KA, elsewhere RQ, RR or the end.
 pub fn trace_record(file: &[u8], at: usize) -> Result<Found, Refusal> {
     let mut cursor = Cursor::at(file, at)?;
     if at == 0 {
@@ -141,8 +173,8 @@ pub fn trace_record(file: &[u8], at: usize) -> Result<Found, Refusal> {
     if cursor.at_end() {
         return Ok(Found::End);
     }
-    let page = cursor.request()?;
-    Ok(Found::Request { page, next: cursor.offset(file) })
+    let (page, times) = cursor.request()?;
+    Ok(Found::Request { page, times, next: cursor.offset(file) })
 }
 
 /// The schedule reader does likewise with EV and PF. An EV's n is at most `bound`, and at most 256.
@@ -191,6 +223,15 @@ pub fn write_request(bytes: &mut [u8], at: usize, page: u32) -> Result<usize, Re
     write(&record, bytes, at)
 }
 
+pub fn write_run(bytes: &mut [u8], at: usize, page: u32, times: u16) -> Result<usize, Refusal> {
+    if times == 0 {
+        return Err(13);
+    }
+    let mut record = Vec::new();
+    put_run(&mut record, page, times);
+    write(&record, bytes, at)
+}
+
 pub fn write_entry(bytes: &mut [u8], at: usize, entry: &Entry) -> Result<usize, Refusal> {
     match entry {
         Entry::Ev { pages, .. } if pages.is_empty() || pages.len() > K_MAX as usize => return Err(6),
@@ -212,6 +253,12 @@ pub fn put_request(out: &mut Vec<u8>, page: u32) {
     out.extend_from_slice(&page.to_le_bytes());
 }
 
+pub fn put_run(out: &mut Vec<u8>, page: u32, times: u16) {
+    out.extend_from_slice(b"RR");
+    out.extend_from_slice(&page.to_le_bytes());
+    out.extend_from_slice(&times.to_le_bytes());
+}
+
 pub fn put_entry(out: &mut Vec<u8>, entry: &Entry) {
     match entry {
         Entry::Ev { t, pages } => {
@@ -230,14 +277,23 @@ pub fn put_entry(out: &mut Vec<u8>, entry: &Entry) {
     }
 }
 
-/// The bytes of a trace's file.
-pub fn trace_file(k: u32, a: u32, pages: &[u32]) -> Vec<u8> {
+/// The bytes of a trace's file with these records.
+pub fn trace_of(k: u32, a: u32, records: &[Asked]) -> Vec<u8> {
     let mut out = Vec::new();
     put_sizes(&mut out, k, a);
-    for &page in pages {
-        put_request(&mut out, page);
+    for &record in records {
+        match record {
+            Asked::Rq { page } => put_request(&mut out, page),
+            Asked::Rr { page, times } => put_run(&mut out, page, times),
+        }
     }
     out
+}
+
+/// The bytes of a trace's file in single records.
+pub fn trace_file(k: u32, a: u32, pages: &[u32]) -> Vec<u8> {
+    let single: Vec<Asked> = pages.iter().map(|&page| Asked::Rq { page }).collect();
+    trace_of(k, a, &single)
 }
 
 /// The bytes of a schedule's file.

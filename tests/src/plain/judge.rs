@@ -10,10 +10,25 @@ fn word(bytes: &[u8], at: usize) -> Option<u32> {
     Some(u32::from_le_bytes(bytes.get(at..at + 4)?.try_into().ok()?))
 }
 
-/// The pages of a trace's file.
+/// The pages of a trace's file, each as often as it is asked for.
 pub fn trace_pages(trace: &[u8]) -> Option<Vec<u32>> {
-    let records = trace.get(6..)?.chunks(6);
-    records.map(|record| if record.get(..2)? == b"RQ" { word(record, 2) } else { None }).collect()
+    let mut rest = trace.get(6..)?;
+    let mut pages = Vec::with_capacity(rest.len() / 6);
+    while !rest.is_empty() {
+        let page = word(rest, 2)?;
+        match &rest[..2] {
+            b"RQ" => {
+                pages.push(page);
+                rest = &rest[6..];
+            }
+            b"RR" => {
+                pages.resize(pages.len() + half(rest, 6)?, page);
+                rest = &rest[8..];
+            }
+            _ => return None,
+        }
+    }
+    Some(pages)
 }
 
 /// Adds the pages requested from `from` to before `to`.

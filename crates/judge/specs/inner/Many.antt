@@ -3,9 +3,9 @@ use Prim.Native.Nat.{ℕ, _+_, _*_, _≤_, _<_}
 use mathlib.Core.List.{List}
 use mathlib.Core.Path.{_≡_}
 use lib.ListN.{length}
-use Rattle.reading.specs.Files.{requestsFrom}
 use Rattle.reading.specs.Reading.{readSchedule}
 use Rattle.reading.specs.Reading as reading
+use Rattle.traces.specs.Cursor.{requestsLeft}
 use Rattle.judge.specs.declared.entries.Place.{Place}
 use Rattle.judge.specs.declared.entries.Step as steps
 use Rattle.judge.specs.declared.entries.Step.the-variants as step
@@ -25,7 +25,7 @@ pub record FetchesReady (schedule held : List ℕ) (p : Place) : Type 0 where
 
 -- the place with so many PFs
 abbrev pub fetching : Place → ℕ → Place
-fetching p fetches = record { t = p .t; at = p .at; n = p .n; from = p .from; fetches = fetches; bundles = p .bundles }
+fetching p fetches = record { t = p .t; rest = p .rest; n = p .n; from = p .from; fetches = fetches; bundles = p .bundles }
 
 -- some PFs further on, at the same request
 pub record More (schedule : List ℕ) (p q : Place) : Type 0 where
@@ -39,7 +39,7 @@ MoreStep schedule p (step.Stop number) = Unit {0}
 
 -- the answer from the step on is the answer from the place on, for every k and every trace in which the place's request is one
 pub record ReadOn (a : ℕ) (schedule held : List ℕ) (p : Place) (r : steps.Step) : Type 0 where
-  pub answer : (k : ℕ) → (trace : List ℕ) → 0 < length (requestsFrom trace (p .at) .held)
+  pub answer : (k : ℕ) → (trace : List ℕ) → 0 < length (requestsLeft trace (p .rest) .held)
       → turnAnswer k a trace schedule held (turnOf r) ≡ placeAnswer k a trace schedule held p
   pub more : MoreStep schedule p r
 

@@ -4,7 +4,8 @@ use mathlib.Core.List.{List, _++_}
 use mathlib.Core.Path.{_≡_}
 use lib.Dec.{ltb}
 use lib.ListN.{length, take}
-use Rattle.reading.specs.Files.{requestsFrom}
+use Rattle.traces.specs.Cursor.{requestsLeft}
+use Rattle.traces.specs.declared.cursor.Rest.{Rest}
 use Rattle.judging.specs.Judging.{Standing}
 use Rattle.judging.specs.Judging as judging
 use Rattle.judge.specs.declared.closing.Closing as closings
@@ -18,7 +19,7 @@ abbrev pub standing : (trace schedule held : List ℕ) → Place → Standing
 standing trace schedule held p =
     record {
       t = p .t;
-      trace = requestsFrom trace (p .at) .held;
+      trace = requestsLeft trace (p .rest) .held;
       held = take (p .n) held ++ fetchedPages schedule (p .from) (p .fetches);
       fetched = ltb 0 (p .fetches);
       bundles = p .bundles;
@@ -30,9 +31,9 @@ pub record Sound (k requests : ℕ) (trace schedule : List ℕ) (p : Place) : Ty
   pub room : p .n ≤ k
   pub inside : p .from + 10 * p .fetches ≤ length schedule
   pub behind : p .bundles < p .from
-  pub started : 0 < p .at
-  pub undamaged : requestsFrom trace (p .at) .damage ≡ 0
-  pub counted : p .t + length (requestsFrom trace (p .at) .held) ≡ requests
+  pub started : 0 < p .rest .from
+  pub undamaged : requestsLeft trace (p .rest) .damage ≡ 0
+  pub counted : p .t + length (requestsLeft trace (p .rest) .held) ≡ requests
 
 abbrev pub stepOf : (trace schedule held : List ℕ) → steps.Step → judging.Step
 stepOf trace schedule held (step.On p) = judging.on (standing trace schedule held p)
@@ -48,15 +49,15 @@ SoundStep k requests trace schedule next (step.On p) = SoundAt k requests trace 
 SoundStep k requests trace schedule next (step.Stop number) = Unit {0}
 
 abbrev pub closingOf : (trace held : List ℕ) → closings.Closing → judging.Closed
-closingOf trace held (closing.Open at n) = judging.closed (requestsFrom trace at .held) (take n held)
+closingOf trace held (closing.Open rest n) = judging.closed (requestsLeft trace rest .held) (take n held)
 closingOf trace held closing.Overfull = judging.overfull
 
 -- the cursor after some requests are closed: at most k pages are held, and the rest of the trace has the damage it had
-pub record Moved (trace : List ℕ) (k before at n : ℕ) : Type 0 where
+pub record Moved (trace : List ℕ) (k : ℕ) (before rest : Rest) (n : ℕ) : Type 0 where
   pub room : n ≤ k
-  pub started : 0 < at
-  pub damage : requestsFrom trace at .damage ≡ requestsFrom trace before .damage
+  pub started : 0 < rest .from
+  pub damage : requestsLeft trace rest .damage ≡ requestsLeft trace before .damage
 
-abbrev pub Cursor : (trace : List ℕ) → (k before : ℕ) → closings.Closing → Type 0
-Cursor trace k before (closing.Open at n) = Moved trace k before at n
+abbrev pub Cursor : (trace : List ℕ) → (k : ℕ) → (before : Rest) → closings.Closing → Type 0
+Cursor trace k before (closing.Open rest n) = Moved trace k before rest n
 Cursor trace k before closing.Overfull = Unit {0}

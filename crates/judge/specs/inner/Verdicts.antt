@@ -1,18 +1,13 @@
 -- The judge's answers as its code gives them, and the definitions' values that they stand for.
 use Prim.Native.Nat.{ℕ, _+_, _*_, _≤_, _<_}
 use mathlib.Core.List.{List}
-use lib.Dec.{eqb, ltb}
 use lib.ListN.{length}
-use Rattle.lists.specs.Choice.{pick}
-use Rattle.paging.specs.Refusals.{longestTrace}
-use Rattle.reading.specs.Files.{File, entriesFrom}
+use Rattle.reading.specs.Files.{entriesFrom}
 use Rattle.judging.specs.Answer.{Answer, cost, refused}
 use Rattle.judging.specs.Judging.{judgedFrom}
 use Rattle.judge.specs.declared.entries.Place.{Place}
 use Rattle.judge.specs.declared.entries.Step as steps
 use Rattle.judge.specs.declared.entries.Step.the-variants as step
-use Rattle.judge.specs.declared.files.Counted.{Counted}
-use Rattle.judge.specs.declared.files.Counted.the-variants as counted
 use Rattle.judge.specs.declared.run.Turn.{Turn}
 use Rattle.judge.specs.declared.run.Turn.the-variants as turn
 use Rattle.judge.specs.declared.run.Verdict.{Verdict}
@@ -50,17 +45,3 @@ pub record Onward (k requests : ℕ) (trace schedule : List ℕ) (p q : Place) :
 abbrev pub SoundTurn : (k requests : ℕ) → (trace schedule : List ℕ) → Place → Turn → Type 0
 SoundTurn k requests trace schedule p (turn.On q) = Onward k requests trace schedule p q
 SoundTurn k requests trace schedule p (turn.Done v) = AtMost (length schedule) v
-
--- the number of a trace's requests, or its refusal
-pub data RequestCount : Type 0 where
-  requests : (n : ℕ) → RequestCount
-  barred : (number : ℕ) → RequestCount
-
-abbrev pub counts : File ℕ → RequestCount
-counts file =
-    pick (ltb longestTrace (length (file .held))) (barred 3)
-    (pick (eqb (file .damage) 0) (requests (length (file .held))) (barred (file .damage)))
-
-abbrev pub countedIn : Counted → RequestCount
-countedIn (counted.Requests n) = requests n
-countedIn (counted.Refused number) = barred number

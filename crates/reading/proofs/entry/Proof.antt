@@ -3,7 +3,7 @@ use mathlib.Core.Path.{_≡_, _∙_, sym, ap}
 use lib.ListN.{drop}
 use borrow.Author.Needs.{needs}
 use Rattle.records.specs.Answers.{kindMark}
-use Rattle.records.specs.Marks.{KA, RQ, EV, PF, markAt}
+use Rattle.records.specs.Marks.{KA, RQ, RR, EV, PF, markAt}
 use Rattle.reading.specs.Reading.{entryRead}
 use Rattle.reading.proofs.entry.Statement.{statement}
 use Rattle.reading.proofs.entry.Tie as tie
@@ -15,8 +15,7 @@ returns c =
     let offset = start .args .at in
     let s = start .args .s .now in
     let mark-at = c .before .before .before .mark-at in
-    let e : markAt (drop offset s) ≡ EV = sym (mark-at .ensures) ∙ ap kindMark (c .before .enum-told .given .1)
-    in
+    let e : markAt (drop offset s) ≡ EV = sym (mark-at .ensures) ∙ ap kindMark (c .before .enum-told .given .1) in
     rw e (c .bundle .ensures)
 
 returns-2 : tie.Need-returns-2
@@ -26,8 +25,7 @@ returns-2 c =
     let offset = start .args .at in
     let s = start .args .s .now in
     let mark-at = c .before .before .before .mark-at in
-    let e : markAt (drop offset s) ≡ PF = sym (mark-at .ensures) ∙ ap kindMark (c .before .enum-told2 .given .1)
-    in
+    let e : markAt (drop offset s) ≡ PF = sym (mark-at .ensures) ∙ ap kindMark (c .before .enum-told2 .given .1) in
     rw e (c .fetch .ensures)
 
 returns-3 : tie.Need-returns-3
@@ -53,6 +51,16 @@ returns-4 c =
 returns-5 : tie.Need-returns-5
 unfolding entryRead
 returns-5 c =
+    let start = c .before .before .before .before in
+    let offset = start .args .at in
+    let s = start .args .s .now in
+    let mark-at = c .before .before .mark-at in
+    let e : markAt (drop offset s) ≡ RR = sym (mark-at .ensures) ∙ ap kindMark (c .enum-told5 .given .1) in
+    rw e
+
+returns-6 : tie.Need-returns-6
+unfolding entryRead
+returns-6 c =
     let mark-at = c .before .before .before .mark-at in
     let e = sym (mark-at .ensures) ∙ ap kindMark (c .before .kind .given .1) in
     rw e
@@ -69,8 +77,10 @@ entry-spec =
     (λ c. search needs)
     (λ c. search needs)
     (λ c. search needs)
+    (λ c. search needs)
     returns
     returns-2
     returns-3
     returns-4
-    returns-5)
+    returns-5
+    returns-6)

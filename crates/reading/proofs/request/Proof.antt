@@ -1,57 +1,66 @@
--- `reading::request` meets its contract: by the mark's kind, each arm is one clause of `rqRead`.
+-- `reading::request` meets its contract: by the mark's kind, each arm is one clause of `requestRead`.
 use mathlib.Core.Path.{_≡_, _∙_, sym, ap}
 use lib.ListN.{drop}
 use borrow.Author.Needs.{needs}
 use Rattle.records.specs.Answers.{kindMark}
-use Rattle.records.specs.Marks.{KA, RQ, EV, PF, markAt}
-use Rattle.reading.specs.Reading.{rqRead}
+use Rattle.records.specs.Marks.{KA, RQ, RR, EV, PF, markAt}
+use Rattle.reading.specs.Reading.{requestRead}
 use Rattle.reading.proofs.request.Statement.{statement}
 use Rattle.reading.proofs.request.Tie as tie
 
 returns : tie.Need-returns
-unfolding rqRead
+unfolding requestRead
 returns c =
     let start = c .before .before .before .before .before in
     let offset = start .args .at in
     let s = start .args .s .now in
     let mark-at = c .before .before .before .mark-at in
-    let e : markAt (drop offset s) ≡ RQ = sym (mark-at .ensures) ∙ ap kindMark (c .before .enum-told .given .1)
-    in
-    rw e (c .page .ensures)
+    let e : markAt (drop offset s) ≡ RQ = sym (mark-at .ensures) ∙ ap kindMark (c .before .enum-told .given .1) in
+    rw e (c .single .ensures)
 
 returns-2 : tie.Need-returns-2
-unfolding rqRead
+unfolding requestRead
 returns-2 c =
-    let start = c .before .before .before .before in
+    let start = c .before .before .before .before .before in
     let offset = start .args .at in
     let s = start .args .s .now in
-    let mark-at = c .before .before .mark-at in
-    let e : markAt (drop offset s) ≡ KA = sym (mark-at .ensures) ∙ ap kindMark (c .enum-told2 .given .1) in
-    rw e
+    let mark-at = c .before .before .before .mark-at in
+    let e : markAt (drop offset s) ≡ RR = sym (mark-at .ensures) ∙ ap kindMark (c .before .enum-told2 .given .1) in
+    rw e (c .run .ensures)
 
 returns-3 : tie.Need-returns-3
-unfolding rqRead
+unfolding requestRead
 returns-3 c =
     let start = c .before .before .before .before in
     let offset = start .args .at in
     let s = start .args .s .now in
     let mark-at = c .before .before .mark-at in
-    let e : markAt (drop offset s) ≡ EV = sym (mark-at .ensures) ∙ ap kindMark (c .enum-told3 .given .1) in
+    let e : markAt (drop offset s) ≡ KA = sym (mark-at .ensures) ∙ ap kindMark (c .enum-told3 .given .1) in
     rw e
 
 returns-4 : tie.Need-returns-4
-unfolding rqRead
+unfolding requestRead
 returns-4 c =
     let start = c .before .before .before .before in
     let offset = start .args .at in
     let s = start .args .s .now in
     let mark-at = c .before .before .mark-at in
-    let e : markAt (drop offset s) ≡ PF = sym (mark-at .ensures) ∙ ap kindMark (c .enum-told4 .given .1) in
+    let e : markAt (drop offset s) ≡ EV = sym (mark-at .ensures) ∙ ap kindMark (c .enum-told4 .given .1) in
     rw e
 
 returns-5 : tie.Need-returns-5
-unfolding rqRead
+unfolding requestRead
 returns-5 c =
+    let start = c .before .before .before .before in
+    let offset = start .args .at in
+    let s = start .args .s .now in
+    let mark-at = c .before .before .mark-at in
+    let e : markAt (drop offset s) ≡ PF = sym (mark-at .ensures) ∙ ap kindMark (c .enum-told5 .given .1) in
+    rw e
+
+returns-6 : tie.Need-returns-6
+unfolding requestRead
+returns-6 c =
     let mark-at = c .before .before .before .mark-at in
     let e = sym (mark-at .ensures) ∙ ap kindMark (c .before .kind .given .1) in
     rw e
@@ -64,6 +73,8 @@ request-spec =
     (λ c. search needs)
     (λ c κs. search needs)
     (λ c. search needs)
+    (λ c κs. search needs)
+    (λ c. search needs)
     (λ c. search needs)
     (λ c. search needs)
     (λ c. search needs)
@@ -71,4 +82,5 @@ request-spec =
     returns-2
     returns-3
     returns-4
-    returns-5)
+    returns-5
+    returns-6)

@@ -6,16 +6,16 @@ use Rattle.judge.proofs.closing.close.Statement.{statement}
 use Rattle.judge.proofs.closing.close.Tie as tie
 
 abbrev Inv-loop : tie.InvT-loop
-Inv-loop trace at count held₀ n k from₀ left₀ m₀ held from left m = Closes trace k at count held₀ n from left m held
+Inv-loop trace count held₀ n k first left₀ m₀ held rest left m = Closes trace k first count held₀ n rest left m held
 
 abbrev μ-loop : tie.MeasureT-loop
-μ-loop trace at count held₀ n k from₀ left₀ m₀ held from left m = left
+μ-loop trace count held₀ n k first left₀ m₀ held rest left m = left
 
 loop-holds : tie.Need-loop-holds Inv-loop μ-loop
 loop-holds c = record { started = search needs; room = search needs; kept = refl; enough = search needs; damage = refl; same = refl }
 
-request-at-requires : tie.Need-request-at-requires Inv-loop μ-loop
-request-at-requires c κs = let i = c .before .loop .inv in let e = i .enough in (i .started, omega arith)
+next-request-requires : tie.Need-next-request-requires Inv-loop μ-loop
+next-request-requires c κs = let i = c .before .loop .inv in let e = i .enough in (i .started, omega arith)
 
 add-requires : tie.Need-add-requires Inv-loop μ-loop
 add-requires c κs =
@@ -24,23 +24,23 @@ add-requires c κs =
 
 same-length : tie.Need-same-length Inv-loop μ-loop
 same-length c =
-    let inv = c .before .before .before .before .before .before .before .loop .inv in
-    let add = c .before .before .before .add in
+    let inv = c .before .before .before .before .before .before .before .before .loop .inv in
+    let add = c .before .before .before .before .add in
     add .kept .0 ∙ inv .kept
 
 returns : tie.Need-returns Inv-loop μ-loop
 returns c =
-    let inv = c .before .before .before .before .before .before .before .loop .inv in
-    let request-at = c .before .before .before .before .before .request-at in
-    (closes-over _ _ _ _ _ _ _ _ _ _ inv (request-at .result .page) (request-at .result .next) (omega arith) (request-at .ensures .1) (omega arith), tt)
+    let inv = c .before .before .before .before .before .before .before .before .loop .inv in
+    let next-request = c .before .before .before .before .before .before .next-request in
+    (closes-over _ _ _ _ _ _ _ _ _ _ inv (next-request .result .page) (next-request .result .left) (omega arith) (next-request .ensures .1) (omega arith), tt)
 
 loop-again : tie.Need-loop-again Inv-loop μ-loop
 loop-again c =
-    let inv = c .before .before .before .before .before .before .before .loop .inv in
-    let request-at = c .before .before .before .before .before .request-at in
-    let add = c .before .before .before .add in
-    closes-next _ _ _ _ _ _ _ _ _ _ inv (request-at .result .page) (request-at .result .next) (omega arith) (request-at .ensures .1) (add .result) (add .last .0)
-    (request-at .ensures .0) (omega arith) (add .kept .0) (add .ensures .0) (add .ensures .1 (omega arith))
+    let inv = c .before .before .before .before .before .before .before .before .loop .inv in
+    let next-request = c .before .before .before .before .before .before .next-request in
+    let add = c .before .before .before .before .add in
+    closes-next _ _ _ _ _ _ _ _ _ _ inv (next-request .result .page) (next-request .result .left) (omega arith) (next-request .ensures .1) (add .result) (add .last .0)
+    (next-request .ensures .0) (omega arith) (add .kept .0) (add .ensures .0) (add .ensures .1 (omega arith))
 
 same-length-2 : tie.Need-same-length-2 Inv-loop μ-loop
 same-length-2 c = (c .before .loop .inv) .kept
@@ -57,7 +57,7 @@ close-spec =
     Inv-loop
     μ-loop
     loop-holds
-    request-at-requires
+    next-request-requires
     add-requires
     (λ c. search needs)
     same-length

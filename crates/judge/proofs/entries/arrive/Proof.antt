@@ -89,11 +89,11 @@ returns-5 c =
     let u = start .args .u in
     let pre = start .pre in
     let close-open = c .before .before .before .before .before .close-open in
-    let offset = c .before .at in (
+    let rest = c .before .rest in (
       opens k requests trace schedule held place u (pre .0) (omega arith) (omega arith) (close-open .result) (close-open .last .1 .1 .1 .0) (close-open .ensures .0)
-          (offset .given .0 .0) (offset .given .0 .1 .0) (offset .given .1),
+          (rest .given .0 .0) (rest .given .0 .1 .0) (rest .given .1),
       opens-sound k requests trace schedule held place u (pre .0) (omega arith) (omega arith) (close-open .result) (close-open .last .1 .1 .1 .0)
-          (close-open .ensures .0) (offset .given .0 .0) (offset .given .0 .1 .0) (offset .given .1) (close-open .ensures .1),
+          (close-open .ensures .0) (rest .given .0 .0) (rest .given .0 .1 .0) (rest .given .1) (close-open .ensures .1),
     )
 
 pub arrive-spec : {M : Type 1} → statement M

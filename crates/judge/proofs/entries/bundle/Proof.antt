@@ -16,7 +16,7 @@ arrive-requires c κs =
 
 returns : tie.Need-returns
 returns c =
-    let start = c .before .before .before .before .before .before .before .before .before .before .before .before in
+    let start = c .before .before .before .before .before .before .before .before .before .before .before .before .before in
     let count = start .args .count in
     let held = start .args .held .now in
     let k = start .args .k in
@@ -26,8 +26,8 @@ returns c =
     let schedule = start .args .schedule .now in
     let t = start .args .t in
     let trace = start .args .trace .now in
-    let arrive = c .before .before .before .before .before .before .before .arrive in
-    let here = c .before .before .before .here in
+    let arrive = c .before .before .before .before .before .before .before .before .arrive in
+    let here = c .before .before .before .before .here in
     let d = lands k requests _ trace schedule (arrive .result) (here .given .0 .0) (here .given .1) (arrive .ensures .1) in (
       ev-late k requests trace schedule (arrive .last .1 .1 .0) (here .given .0 .0) (d .sound) t (nums32 count (drop pages schedule)) (omega arith)
           ∙ acts k trace schedule (arrive .last .1 .1 .0) (standing trace schedule held place) (ev t (nums32 count (drop pages schedule))) (arrive .result)
@@ -37,30 +37,30 @@ returns c =
 
 evict-requires : tie.Need-evict-requires
 evict-requires c κs =
-    let start = c .before .before .before .before .before .before .before .before .before .before .before .before .before in
+    let start = c .before .before .before .before .before .before .before .before .before .before .before .before .before .before in
     let k = start .args .k in
     let requests = start .args .requests in
     let schedule = start .args .schedule .now in
     let trace = start .args .trace .now in
-    let arrive = c .before .before .before .before .before .before .before .before .arrive in
-    let here = c .before .before .before .before .here in
+    let arrive = c .before .before .before .before .before .before .before .before .before .arrive in
+    let here = c .before .before .before .before .before .here in
     let d = lands k requests _ trace schedule (arrive .result) (here .given .0 .0) (here .given .1) (arrive .ensures .1) in
     let r = d .sound .room in let kept = arrive .kept .1 .1 .0 in (omega arith, omega arith)
 
-sub-t23 : tie.Need-sub-t23
-sub-t23 c =
+sub-t24 : tie.Need-sub-t24
+sub-t24 c =
     let evict = c .before .before .before .evict in
     let l = evict .ensures .1 (c .if2 .taken) .0 in omega arith
 
-add-t24 : tie.Need-add-t24
-add-t24 c =
-    let start = c .before .before .before .before .before .before .before .before .before .before .before .before .before .before .before .before .before .before in
+add-t25 : tie.Need-add-t25
+add-t25 c =
+    let start = c .before .before .before .before .before .before .before .before .before .before .before .before .before .before .before .before .before .before .before in
     let k = start .args .k in
     let requests = start .args .requests in
     let schedule = start .args .schedule .now in
     let trace = start .args .trace .now in
-    let arrive = c .before .before .before .before .before .before .before .before .before .before .before .before .before .arrive in
-    let here = c .before .before .before .before .before .before .before .before .before .here in
+    let arrive = c .before .before .before .before .before .before .before .before .before .before .before .before .before .before .arrive in
+    let here = c .before .before .before .before .before .before .before .before .before .before .here in
     let d = lands k requests _ trace schedule (arrive .result) (here .given .0 .0) (here .given .1) (arrive .ensures .1) in
     let b = d .sound .behind in let i = d .sound .inside in omega arith
 
@@ -84,13 +84,13 @@ returns-2 c =
 
 same-length-3 : tie.Need-same-length-3
 same-length-3 c =
-    let arrive = c .before .before .before .before .before .before .before .before .before .before .before .before .before .arrive in
+    let arrive = c .before .before .before .before .before .before .before .before .before .before .before .before .before .before .arrive in
     let evict = c .before .before .before .before .evict in
     evict .kept .0 ∙ arrive .kept .1 .1 .0
 
 returns-3 : tie.Need-returns-3
 returns-3 c =
-    let start = c .before .before .before .before .before .before .before .before .before .before .before .before .before .before .before .before .before .before in
+    let start = c .before .before .before .before .before .before .before .before .before .before .before .before .before .before .before .before .before .before .before in
     let count = start .args .count in
     let held = start .args .held .now in
     let k = start .args .k in
@@ -101,8 +101,8 @@ returns-3 c =
     let schedule = start .args .schedule .now in
     let t = start .args .t in
     let trace = start .args .trace .now in
-    let arrive = c .before .before .before .before .before .before .before .before .before .before .before .before .before .arrive in
-    let here = c .before .before .before .before .before .before .before .before .before .here in
+    let arrive = c .before .before .before .before .before .before .before .before .before .before .before .before .before .before .arrive in
+    let here = c .before .before .before .before .before .before .before .before .before .before .here in
     let evict = c .before .before .before .before .evict in
     let if2 = c .before .if2 in
     let d = lands k requests _ trace schedule (arrive .result) (here .given .0 .0) (here .given .1) (arrive .ensures .1) in
@@ -117,13 +117,13 @@ returns-3 c =
 
 same-length-4 : tie.Need-same-length-4
 same-length-4 c =
-    let arrive = c .before .before .before .before .before .before .before .before .before .before .before .before .arrive in
+    let arrive = c .before .before .before .before .before .before .before .before .before .before .before .before .before .arrive in
     let evict = c .before .before .before .evict in
     evict .kept .0 ∙ arrive .kept .1 .1 .0
 
 returns-4 : tie.Need-returns-4
 returns-4 c =
-    let start = c .before .before .before .before .before .before .before .before .before .before .before .before .before .before .before .before .before in
+    let start = c .before .before .before .before .before .before .before .before .before .before .before .before .before .before .before .before .before .before in
     let count = start .args .count in
     let held = start .args .held .now in
     let k = start .args .k in
@@ -133,8 +133,8 @@ returns-4 c =
     let schedule = start .args .schedule .now in
     let t = start .args .t in
     let trace = start .args .trace .now in
-    let arrive = c .before .before .before .before .before .before .before .before .before .before .before .before .arrive in
-    let here = c .before .before .before .before .before .before .before .before .here in
+    let arrive = c .before .before .before .before .before .before .before .before .before .before .before .before .before .arrive in
+    let here = c .before .before .before .before .before .before .before .before .before .here in
     let evict = c .before .before .before .evict in
     let d = lands k requests _ trace schedule (arrive .result) (here .given .0 .0) (here .given .1) (arrive .ensures .1) in (
       ev-missing k requests trace schedule (arrive .last .1 .1 .0) (here .given .0 .0) (d .sound) t (nums32 count (drop pages schedule)) (omega arith)
@@ -154,8 +154,8 @@ bundle-spec =
     (λ c. search needs)
     returns
     evict-requires
-    sub-t23
-    add-t24
+    sub-t24
+    add-t25
     (λ c. search needs)
     returns-2
     same-length-3

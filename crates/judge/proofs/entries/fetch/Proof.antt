@@ -14,19 +14,19 @@ arrive-requires c κs =
 
 has-requires : tie.Need-has-requires
 has-requires c κs =
-    let start = c .before .before .before .before .before .before .before .before .before .before .before in
+    let start = c .before .before .before .before .before .before .before .before .before .before .before .before in
     let k = start .args .k in
     let requests = start .args .requests in
     let schedule = start .args .schedule .now in
     let trace = start .args .trace .now in
-    let arrive = c .before .before .before .before .before .before .arrive in
-    let here = c .before .before .here in
+    let arrive = c .before .before .before .before .before .before .before .arrive in
+    let here = c .before .before .before .here in
     let d = lands k requests _ trace schedule (arrive .result) (here .given .0 .0) (here .given .1) (arrive .ensures .1) in
     let r = d .sound .room in let kept = arrive .kept .1 .1 .0 in omega arith
 
 returns : tie.Need-returns
 returns c =
-    let start = c .before .before .before .before .before .before .before .before .before .before .before .before .before in
+    let start = c .before .before .before .before .before .before .before .before .before .before .before .before .before .before in
     let held = start .args .held .now in
     let k = start .args .k in
     let page = start .args .page in
@@ -35,8 +35,8 @@ returns c =
     let schedule = start .args .schedule .now in
     let t = start .args .t in
     let trace = start .args .trace .now in
-    let arrive = c .before .before .before .before .before .before .before .before .arrive in
-    let here = c .before .before .before .before .here in
+    let arrive = c .before .before .before .before .before .before .before .before .before .arrive in
+    let here = c .before .before .before .before .before .here in
     let d = lands k requests _ trace schedule (arrive .result) (here .given .0 .0) (here .given .1) (arrive .ensures .1) in (
       pf-held k requests trace schedule (arrive .last .1 .1 .0) (here .given .0 .0) (d .sound) t page (sym (c .if1 .taken) ∙ c .before .has .ensures)
           ∙ acts k trace schedule (arrive .last .1 .1 .0) (standing trace schedule held place) (pf t page) (arrive .result) (arrive .ensures .0) (here .given .0 .0)
@@ -46,19 +46,19 @@ returns c =
 
 fetched-requires : tie.Need-fetched-requires
 fetched-requires c κs =
-    let start = c .before .before .before .before .before .before .before .before .before .before .before .before .before in
+    let start = c .before .before .before .before .before .before .before .before .before .before .before .before .before .before in
     let k = start .args .k in
     let requests = start .args .requests in
     let schedule = start .args .schedule .now in
     let trace = start .args .trace .now in
-    let arrive = c .before .before .before .before .before .before .before .before .arrive in
-    let here = c .before .before .before .before .here in
+    let arrive = c .before .before .before .before .before .before .before .before .before .arrive in
+    let here = c .before .before .before .before .before .here in
     let d = lands k requests _ trace schedule (arrive .result) (here .given .0 .0) (here .given .1) (arrive .ensures .1) in
     d .sound .inside
 
 returns-2 : tie.Need-returns-2
 returns-2 c =
-    let start = c .before .before .before .before .before .before .before .before .before .before .before .before .before .before .before in
+    let start = c .before .before .before .before .before .before .before .before .before .before .before .before .before .before .before .before in
     let held = start .args .held .now in
     let k = start .args .k in
     let page = start .args .page in
@@ -67,8 +67,8 @@ returns-2 c =
     let schedule = start .args .schedule .now in
     let t = start .args .t in
     let trace = start .args .trace .now in
-    let arrive = c .before .before .before .before .before .before .before .before .before .before .arrive in
-    let here = c .before .before .before .before .before .before .here in
+    let arrive = c .before .before .before .before .before .before .before .before .before .before .before .arrive in
+    let here = c .before .before .before .before .before .before .before .here in
     let d = lands k requests _ trace schedule (arrive .result) (here .given .0 .0) (here .given .1) (arrive .ensures .1) in (
       pf-fetched k requests trace schedule (arrive .last .1 .1 .0) (here .given .0 .0) (d .sound) t page (sym (c .if2 .taken) ∙ c .before .fetched .ensures)
           ∙ acts k trace schedule (arrive .last .1 .1 .0) (standing trace schedule held place) (pf t page) (arrive .result) (arrive .ensures .0) (here .given .0 .0)
@@ -76,15 +76,15 @@ returns-2 c =
       tt,
     )
 
-add-t22 : tie.Need-add-t22
-add-t22 c =
-    let start = c .before .before .before .before .before .before .before .before .before .before .before .before .before .before .before in
+add-t23 : tie.Need-add-t23
+add-t23 c =
+    let start = c .before .before .before .before .before .before .before .before .before .before .before .before .before .before .before .before in
     let k = start .args .k in
     let requests = start .args .requests in
     let schedule = start .args .schedule .now in
     let trace = start .args .trace .now in
-    let arrive = c .before .before .before .before .before .before .before .before .before .before .arrive in
-    let here = c .before .before .before .before .before .before .here in
+    let arrive = c .before .before .before .before .before .before .before .before .before .before .before .arrive in
+    let here = c .before .before .before .before .before .before .before .here in
     let d = lands k requests _ trace schedule (arrive .result) (here .given .0 .0) (here .given .1) (arrive .ensures .1) in
     let i = d .sound .inside in omega arith
 
@@ -107,7 +107,7 @@ returns-3 c =
 
 returns-4 : tie.Need-returns-4
 returns-4 c =
-    let start = c .before .before .before .before .before .before .before .before .before .before .before .before .before .before .before in
+    let start = c .before .before .before .before .before .before .before .before .before .before .before .before .before .before .before .before in
     let held = start .args .held .now in
     let k = start .args .k in
     let page = start .args .page in
@@ -117,8 +117,8 @@ returns-4 c =
     let t = start .args .t in
     let trace = start .args .trace .now in
     let pre = start .pre in
-    let arrive = c .before .before .before .before .before .before .before .before .before .before .arrive in
-    let here = c .before .before .before .before .before .before .here in
+    let arrive = c .before .before .before .before .before .before .before .before .before .before .before .arrive in
+    let here = c .before .before .before .before .before .before .before .here in
     let has = c .before .before .before .has in
     let if1 = c .before .before .if1 in
     let d = lands k requests _ trace schedule (arrive .result) (here .given .0 .0) (here .given .1) (arrive .ensures .1) in
@@ -144,7 +144,7 @@ fetch-spec =
     fetched-requires
     (λ c. search needs)
     returns-2
-    add-t22
+    add-t23
     (λ c. search needs)
     returns-3
     (λ c. search needs)

@@ -9,14 +9,13 @@ returns : tie.Need-returns
 returns c =
     let start = c .before .before .before .before .before .before .before in
     let a = start .args .a in
-    let offset = start .args .at in
     let k = start .args .k in
     let requests = start .args .requests in
     let schedule = start .args .schedule .now in
     let trace = start .args .trace .now in
     let schedule-within = c .before .before .before .before .schedule-within in
     let own-k = c .before .before .own-k in (
-      other-k trace schedule offset requests k a (schedule-within .result) (schedule-within .ensures) (own-k .given .0 .0) (own-k .given .0 .1 .0)
+      other-k trace schedule requests k a (schedule-within .result) (schedule-within .ensures) (own-k .given .0 .0) (own-k .given .0 .1 .0)
           (own-k .given .0 .1 .1 .0) (own-k .given .1) (c .if1 .taken),
       tt,
     )
@@ -25,14 +24,13 @@ returns-2 : tie.Need-returns-2
 returns-2 c =
     let start = c .before .before .before .before .before .before .before .before in
     let a = start .args .a in
-    let offset = start .args .at in
     let k = start .args .k in
     let requests = start .args .requests in
     let schedule = start .args .schedule .now in
     let trace = start .args .trace .now in
     let schedule-within = c .before .before .before .before .before .schedule-within in
     let own-k = c .before .before .before .own-k in (
-      other-a trace schedule offset requests k a (schedule-within .result) (schedule-within .ensures) (own-k .given .0 .0) (own-k .given .0 .1 .0)
+      other-a trace schedule requests k a (schedule-within .result) (schedule-within .ensures) (own-k .given .0 .0) (own-k .given .0 .1 .0)
           (own-k .given .0 .1 .1 .0) (own-k .given .1) (omega arith) (c .if2 .taken),
       tt,
     )
@@ -41,7 +39,6 @@ run-requires : tie.Need-run-requires
 run-requires c κs =
     let start = c .before .before .before .before .before .before .before .before .before in
     let a = start .args .a in
-    let offset = start .args .at in
     let k = start .args .k in
     let requests = start .args .requests in
     let schedule = start .args .schedule .now in
@@ -49,8 +46,8 @@ run-requires c κs =
     let pre = start .pre in
     let schedule-within = c .before .before .before .before .before .before .schedule-within in
     let own-k = c .before .before .before .before .own-k in (
-      first-sound trace schedule offset requests k a (schedule-within .result) (schedule-within .ensures) (own-k .given .0 .0) (own-k .given .0 .1 .0)
-          (own-k .given .0 .1 .1 .0) (own-k .given .1) (pre .0) (pre .1) (pre .2),
+      first-sound trace schedule requests k a (schedule-within .result) (schedule-within .ensures) (own-k .given .0 .0) (own-k .given .0 .1 .0)
+          (own-k .given .0 .1 .1 .0) (own-k .given .1) (pre .0) (pre .1),
       omega arith,
     )
 
@@ -58,7 +55,6 @@ returns-3 : tie.Need-returns-3
 returns-3 c =
     let start = c .before .before .before .before .before .before .before .before .before .before .before in
     let a = start .args .a in
-    let offset = start .args .at in
     let k = start .args .k in
     let requests = start .args .requests in
     let schedule = start .args .schedule .now in
@@ -66,7 +62,7 @@ returns-3 c =
     let schedule-within = c .before .before .before .before .before .before .before .before .schedule-within in
     let own-k = c .before .before .before .before .before .before .own-k in
     let run = c .before .run in (
-      first-answer trace schedule offset requests k a (schedule-within .result) (schedule-within .ensures) (own-k .given .0 .0) (own-k .given .0 .1 .0)
+      first-answer trace schedule requests k a (schedule-within .result) (schedule-within .ensures) (own-k .given .0 .0) (own-k .given .0 .1 .0)
           (own-k .given .0 .1 .1 .0) (own-k .given .1) [] _ (omega arith) (omega arith) (run .ensures .0),
       run .ensures .1,
     )
@@ -75,50 +71,46 @@ returns-4 : tie.Need-returns-4
 returns-4 c =
     let start = c .before .before .before .before .before .before in
     let a = start .args .a in
-    let offset = start .args .at in
     let k = start .args .k in
     let requests = start .args .requests in
     let schedule = start .args .schedule .now in
     let trace = start .args .trace .now in
     let schedule-within = c .before .before .before .schedule-within in
     let number = c .before .number in
-    (schedule-refused trace schedule offset requests k a (schedule-within .result) (schedule-within .ensures) (number .given .0 .0) (number .given .1), tt)
+    (schedule-refused trace schedule requests k a (schedule-within .result) (schedule-within .ensures) (number .given .0 .0) (number .given .1), tt)
 
 returns-5 : tie.Need-returns-5
 returns-5 c =
     let start = c .before .before .before .before .before in
     let a = start .args .a in
-    let offset = start .args .at in
     let k = start .args .k in
     let requests = start .args .requests in
     let schedule = start .args .schedule .now in
     let trace = start .args .trace .now in
     let schedule-within = c .before .before .schedule-within in
-    (schedule-end trace schedule offset requests k a (schedule-within .result) (schedule-within .ensures) (c .enum-told .given .1), tt)
+    (schedule-end trace schedule requests k a (schedule-within .result) (schedule-within .ensures) (c .enum-told .given .1), tt)
 
 returns-6 : tie.Need-returns-6
 returns-6 c =
     let start = c .before .before .before .before .before in
     let a = start .args .a in
-    let offset = start .args .at in
     let k = start .args .k in
     let requests = start .args .requests in
     let schedule = start .args .schedule .now in
     let trace = start .args .trace .now in
     let schedule-within = c .before .before .schedule-within in
-    (schedule-bundle trace schedule offset requests k a (schedule-within .result) (schedule-within .ensures) _ _ _ _ (c .enum-told2 .given .1), tt)
+    (schedule-bundle trace schedule requests k a (schedule-within .result) (schedule-within .ensures) _ _ _ _ (c .enum-told2 .given .1), tt)
 
 returns-7 : tie.Need-returns-7
 returns-7 c =
     let start = c .before .before .before .before .before in
     let a = start .args .a in
-    let offset = start .args .at in
     let k = start .args .k in
     let requests = start .args .requests in
     let schedule = start .args .schedule .now in
     let trace = start .args .trace .now in
     let schedule-within = c .before .before .schedule-within in
-    (schedule-fetch trace schedule offset requests k a (schedule-within .result) (schedule-within .ensures) _ _ _ (c .enum-told3 .given .1), tt)
+    (schedule-fetch trace schedule requests k a (schedule-within .result) (schedule-within .ensures) _ _ _ (c .enum-told3 .given .1), tt)
 
 pub schedule-answer-spec : {M : Type 1} → statement M
 schedule-answer-spec =

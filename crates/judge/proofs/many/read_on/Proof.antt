@@ -8,14 +8,14 @@ use Rattle.judge.proofs.many.read_on.Statement.{statement}
 use Rattle.judge.proofs.many.read_on.Tie as tie
 
 abbrev Inv-loop : tie.InvT-loop
-Inv-loop schedule held a place marks₀ t n from fetches₀ marks fetches = Reads a schedule held place fetches marks
+Inv-loop schedule held a place marks₀ t n from rest fetches₀ marks fetches = Reads a schedule held place fetches marks
 
 abbrev μ-loop : tie.MeasureT-loop
-μ-loop schedule held a place marks₀ t n from fetches₀ marks fetches = length schedule - (place .from + 10 * fetches)
+μ-loop schedule held a place marks₀ t n from rest fetches₀ marks fetches = length schedule - (place .from + 10 * fetches)
 
 loop-holds : tie.Need-loop-holds Inv-loop μ-loop
 loop-holds c =
-    let start = c .before .before .before in
+    let start = c .before .before .before .before in
     let a = start .args .a in
     let held = start .args .held .now in
     let marks = start .args .marks .now in
@@ -32,19 +32,19 @@ add-look-ahead c = let i = c .loop .inv .inside in omega arith
 
 known-requires : tie.Need-known-requires Inv-loop μ-loop
 known-requires c κs =
-    let pre = c .before .before .before .before .before .before .before .before .before .pre in
+    let pre = c .before .before .before .before .before .before .before .before .before .before .pre in
     let inv = c .before .before .before .before .before .loop .inv in
     let r = inv in let i = r .inside in let m = pre .0 .room in (m, i, r .size, r .all)
 
 same-length : tie.Need-same-length Inv-loop μ-loop
 same-length c =
-    let pre = c .before .before .before .before .before .before .before .before .before .before .before .pre in
+    let pre = c .before .before .before .before .before .before .before .before .before .before .before .before .pre in
     let inv = c .before .before .before .before .before .before .before .loop .inv in
     inv .size ∙ sym (pre .1)
 
 returns : tie.Need-returns Inv-loop μ-loop
 returns c =
-    let start = c .before .before .before .before .before .before .before .before .before .before .before in
+    let start = c .before .before .before .before .before .before .before .before .before .before .before .before in
     let a = start .args .a in
     let held = start .args .held .now in
     let place = start .args .place in
@@ -66,7 +66,7 @@ mark-requires c κs =
 
 add-fetches : tie.Need-add-fetches Inv-loop μ-loop
 add-fetches c =
-    let start = c .before .before .before .before .before .before .before .before .before .before .before .before .before .before .before in
+    let start = c .before .before .before .before .before .before .before .before .before .before .before .before .before .before .before .before in
     let a = start .args .a in
     let held = start .args .held .now in
     let place = start .args .place in
@@ -83,7 +83,7 @@ add-fetches c =
 
 loop-less : tie.Need-loop-less Inv-loop μ-loop
 loop-less c =
-    let start = c .before .before .before .before .before .before .before .before .before .before .before .before .before .before .before in
+    let start = c .before .before .before .before .before .before .before .before .before .before .before .before .before .before .before .before in
     let a = start .args .a in
     let held = start .args .held .now in
     let place = start .args .place in
@@ -100,7 +100,7 @@ loop-less c =
 
 loop-again : tie.Need-loop-again Inv-loop μ-loop
 loop-again c =
-    let start = c .before .before .before .before .before .before .before .before .before .before .before .before .before .before .before in
+    let start = c .before .before .before .before .before .before .before .before .before .before .before .before .before .before .before .before in
     let a = start .args .a in
     let held = start .args .held .now in
     let place = start .args .place in
@@ -120,13 +120,13 @@ loop-again c =
 
 same-length-2 : tie.Need-same-length-2 Inv-loop μ-loop
 same-length-2 c =
-    let pre = c .before .before .before .before .before .before .before .pre in
+    let pre = c .before .before .before .before .before .before .before .before .pre in
     let inv = c .before .before .before .loop .inv in
     inv .size ∙ sym (pre .1)
 
 returns-2 : tie.Need-returns-2 Inv-loop μ-loop
 returns-2 c =
-    let start = c .before .before .before .before .before .before .before in
+    let start = c .before .before .before .before .before .before .before .before in
     let a = start .args .a in
     let held = start .args .held .now in
     let place = start .args .place in

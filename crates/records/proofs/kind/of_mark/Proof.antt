@@ -21,7 +21,12 @@ unfolding markOf
 returns-4 c = rw (c .match .keys4)
 
 returns-5 : tie.Need-returns-5
-returns-5 c = mark-other _ (c .match .rest .0 .0 .0 .1) (c .match .rest .0 .0 .1) (c .match .rest .0 .1) (c .match .rest .1)
+unfolding markOf
+returns-5 c = rw (c .match .keys5)
+
+returns-6 : tie.Need-returns-6
+returns-6 c =
+    mark-other _ (c .match .rest .0 .0 .0 .0 .1) (c .match .rest .0 .0 .0 .1) (c .match .rest .0 .0 .1) (c .match .rest .0 .1) (c .match .rest .1)
 
 pub of-mark-spec : {M : Type 1} → statement M
-of-mark-spec = tie.close (tie.spec returns returns-2 returns-3 returns-4 returns-5)
+of-mark-spec = tie.close (tie.spec returns returns-2 returns-3 returns-4 returns-5 returns-6)

@@ -1,0 +1,4 @@
+pub mod Traces
+pub mod Calls
+pub mod Cursor
+pub mod inner
