@@ -8,7 +8,7 @@ use cases_rows::text;
 
 // The longest list is a trace with one request too many.
 fn main() {
-    let mut input = [0u8; 24576];
+    let mut input = [0u8; 65536];
     let n = io::read_full(0, &mut input);
     let mut first = [0u32; 65537];
     let mut second = [0u32; 65537];
