@@ -13,7 +13,8 @@ use Rattle.paging.specs.Refusals.{sizesRefusal}
 use Rattle.wire.specs.Numbers.{num16, num32}
 use Rattle.records.specs.Bytes.{evLength}
 use Rattle.records.specs.Marks.{Mark, KA, bad, markOf, markAt}
-use Rattle.reading.specs.Reading.{Answer, refused, ended, sizes, request, bundle, fetch, unless, kaRead, rqRead, rrRead, requestRead, evRead, pfRead, entryRead, countRefused, readTrace, readSchedule}
+use Rattle.reading.specs.Reading.{Answer, refused, ended, sizes, request, bundle, fetch, unless, kaRead, rqRead, rrRead, requestRead, evRead, pfRead, entryRead, countRefused}
+use Rattle.reading.specs.Reading.{readTrace, readSchedule}
 
 -- ---- marks
 

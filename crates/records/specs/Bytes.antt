@@ -73,7 +73,7 @@ pub record TraceFileOf (k a : ℕ) (pages file : List ℕ) : Type 0 where
   pub bytes : file ≡ traceBytes k a entries
   pub requests : allRequestsOf entries ≡ pages
 
--- the file that has one RQ for each request
+-- the records of the file that has one RQ for each request
 abbrev pub singles : List ℕ → List TraceEntry
 singles pages = map rq pages
 

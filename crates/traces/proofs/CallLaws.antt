@@ -3,10 +3,10 @@ use Prim.Native.Nat.{ℕ, _≤_}
 use mathlib.Core.List.{List, _++_}
 use mathlib.Core.Path.{_≡_, refl, sym, ap, _∙_}
 use lib.ListN.{length, drop}
-use borrow.Author.Tests.{ne-eqb, eq-eqb}
+use borrow.Author.Tests.{ne-eqb}
 use Rattle.records.specs.Marks.{markAt}
 use Rattle.reading.specs.Files.{File, requestsFrom}
-use Rattle.reading.specs.Reading.{refused, sizes, kaRead, readTrace}
+use Rattle.reading.specs.Reading.{refused, sizes, kaRead}
 use Rattle.reading.proofs.Reading.{trace-first}
 use Rattle.traces.specs.Calls.{countOf, pagesAfter}
 use Rattle.traces.specs.Traces.{TraceFile, whole, damaged, traceFile}

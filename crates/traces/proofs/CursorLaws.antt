@@ -1,9 +1,9 @@
 -- The next request: inside a run it is the run's page, else that of the record at the offset.
-use Prim.Native.Nat.{ℕ, zero, suc, _+_, _-_, _≤_, _<_}
+use Prim.Native.Nat.{ℕ, zero, suc, _-_, _≤_, _<_}
 use native.Mathlib.Omega.{arith}
-use mathlib.Core.List.{List, [], _∷_, _++_}
-use mathlib.Core.Path.{_≡_, refl, sym, ap, _∙_}
-use lib.ListN.{length, take, drop, set, replicate, length-set}
+use mathlib.Core.List.{List, [], _∷_}
+use mathlib.Core.Path.{_≡_, sym, ap, _∙_}
+use lib.ListN.{length, replicate}
 use Rattle.reading.specs.Answers.{traceAnswer}
 use Rattle.reading.specs.Files.{File, requestsFrom, before}
 use Rattle.reading.specs.Reading.{readTrace}

@@ -1,18 +1,16 @@
 -- Bytes put behind others: a record that is whole in the first ones reads the same. Where it does not, the first ones end inside it.
-use Prim.Native.Nat.{ℕ, zero, suc, _+_, _*_, _≤_, _<_}
+use Prim.Native.Nat.{ℕ, _+_, _≤_, _<_}
 use native.Mathlib.Omega.{arith}
-use mathlib.Core.List.{List, [], _∷_, _++_}
+use mathlib.Core.List.{List, _++_}
 use mathlib.Core.Logic.{_⊎_, inl, inr}
-use mathlib.Core.Path.{_≡_, refl, sym, ap, _∙_}
-use lib.Dec.{eqb, ltb}
-use lib.ListN.{length, getD, drop, length-append, length-drop, List·getD-append}
+use mathlib.Core.Path.{_≡_, refl, sym, _∙_}
+use lib.Dec.{ltb}
+use lib.ListN.{length, drop, length-append, length-drop, List·getD-append}
 use lib.Seq.{drop-append-le}
 use borrow.Author.Tests.{le-ltb, lt-ltb, ne-eqb}
-use Rattle.lists.specs.Choice.{pick}
 use Rattle.lists.proofs.Choice.{cases, split, tests}
 use Rattle.wire.specs.Numbers.{num16, num32}
-use Rattle.records.specs.Marks.{Mark, KA, RQ, RR, EV, PF, bad, markOf, markAt}
-use Rattle.reading.specs.Files.{File, requestsFrom}
+use Rattle.records.specs.Marks.{Mark, KA, RQ, RR, EV, PF, bad, markAt}
 use Rattle.reading.specs.Reading.{Answer, refused, kaRead, rqRead, rrRead, requestRead, readTrace}
 
 module _ (b u : List ℕ) where

@@ -1,7 +1,7 @@
 -- Behind the KA only the bytes from an offset on matter: where they are the same, at whatever offsets and behind whatever bytes, the requests are the same.
 use Prim.Native.Nat.{ℕ, zero, suc, _+_, _-_, _≤_, _<_}
 use native.Mathlib.Omega.{arith}
-use mathlib.Core.List.{List, [], _∷_, _++_}
+use mathlib.Core.List.{List}
 use mathlib.Core.Path.{_≡_, refl, sym, ap, _∙_}
 use lib.Dec.{eqb, ltb}
 use lib.ListN.{length, drop, replicate, length-drop}
@@ -10,7 +10,7 @@ use borrow.Author.Tests.{le-ltb, eq-eqb, ne-eqb}
 use Rattle.lists.proofs.Choice.{cases, tests}
 use Rattle.wire.specs.Numbers.{num16}
 use Rattle.records.specs.Marks.{Mark, KA, RQ, RR, EV, PF, bad, markAt}
-use Rattle.reading.specs.Files.{File, before, onward, pagesIn, requestsFrom}
+use Rattle.reading.specs.Files.{before, onward, pagesIn, requestsFrom}
 use Rattle.reading.specs.Reading.{Answer, refused, ended, sizes, request, bundle, fetch, rqRead, rrRead, requestRead, readTrace}
 use Rattle.reading.proofs.Facts.{TraceFacts, trace-facts}
 use Rattle.reading.proofs.Walk.{requests-step}

@@ -1,11 +1,11 @@
 -- Whoever writes a run as single records sees the same (document 02, request 03): for any bytes behind them, and for any in front that do not end inside a record.
 use Prim.Native.Nat.{ℕ, zero, suc, _+_, _-_, _≤_, _<_}
 use native.Mathlib.Omega.{arith}
-use mathlib.Core.List.{List, [], _∷_, _++_, append-assoc}
+use mathlib.Core.List.{List, [], _∷_, _++_}
 use mathlib.Core.Logic.{_⊎_, inl, inr}
 use mathlib.Core.Path.{_≡_, refl, sym, ap, _∙_}
 use lib.Dec.{eqb}
-use lib.ListN.{length, drop, replicate, length-append}
+use lib.ListN.{length, replicate, length-append}
 use lib.Seq.{drop-append-seam}
 use Rattle.lists.proofs.Choice.{cases, tests}
 use Rattle.wire.specs.Numbers.{bytes16, bytes32}

@@ -1,10 +1,10 @@
 -- A trace file read whole is refused with a number, or it is a KA with right sizes and requests without damage, not more than the limit. Whatever holds of
 -- both holds of every file.
-use Prim.Native.Nat.{ℕ, _+_, _≤_, _<_}
+use Prim.Native.Nat.{ℕ, _≤_}
 use native.Mathlib.Omega.{arith}
 use mathlib.Core.Bool.{Bool}
 use mathlib.Core.List.{List}
-use mathlib.Core.Logic.{_⊎_, inl, inr}
+use mathlib.Core.Logic.{inl}
 use mathlib.Core.Path.{_≡_, refl, sym, ap, subst, _∙_}
 use lib.Dec.{eqb, ltb}
 use lib.ListN.{length}
@@ -14,7 +14,7 @@ use Rattle.lists.proofs.Choice.{by-test, tests}
 use Rattle.paging.specs.Refusals.{refuse, SizesRight}
 use Rattle.paging.proofs.Refusals.{sizes-right, zero-pass}
 use Rattle.records.specs.Bytes.{TraceFileOf}
-use Rattle.reading.specs.Files.{File, requestsFrom}
+use Rattle.reading.specs.Files.{requestsFrom}
 use Rattle.reading.specs.Reading.{Answer, refused, ended, sizes, request, bundle, fetch, readTrace}
 use Rattle.reading.proofs.Facts.{TraceFacts, trace-facts, KaAt}
 use Rattle.reading.proofs.Numbers.{Among, TraceNumber, trace-low, requests-low}
