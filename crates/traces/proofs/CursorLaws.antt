@@ -1,16 +1,15 @@
 -- The next request: inside a run it is the run's page, else that of the record at the offset.
-use Prim.Native.Nat.{ℕ, zero, suc, _-_, _≤_, _<_}
+use Prim.Native.Nat.{ℕ, zero, suc, _+_, _-_, _≤_, _<_}
 use native.Mathlib.Omega.{arith}
 use mathlib.Core.List.{List, [], _∷_}
-use mathlib.Core.Path.{_≡_, sym, ap, _∙_}
-use lib.ListN.{length, replicate}
-use Rattle.reading.specs.Answers.{traceAnswer}
+use mathlib.Core.Path.{_≡_, refl, sym, ap, _∙_}
+use lib.ListN.{length, drop, replicate}
+use Rattle.lists.proofs.Choice.{split}
+use Rattle.wire.specs.Numbers.{num16, num32}
+use Rattle.records.specs.Marks.{markRQ, markRR}
 use Rattle.reading.specs.Files.{File, requestsFrom, before}
-use Rattle.reading.specs.Reading.{readTrace}
-use Rattle.reading.specs.Reading as reading
-use Rattle.reading.specs.declared.TraceRecord.{TraceRecord}
-use Rattle.reading.specs.declared.TraceRecord.the-variants as trace
-use Rattle.reading.proofs.Facts.{trace-says, RequestAt}
+use Rattle.reading.specs.Reading.{Answer, refused, ended, sizes, request, bundle, fetch, readTrace}
+use Rattle.reading.proofs.Facts.{TraceFacts, trace-facts, trace-says, RequestAt, RqAt, RrAt}
 use Rattle.reading.proofs.Walk.{requests-refused, requests-ended, requests-request}
 use Rattle.traces.specs.Cursor.{requestsLeft}
 use Rattle.traces.specs.declared.cursor.Rest.{Rest}
@@ -31,38 +30,70 @@ pub at-a-record : (s : List ℕ) (left : Rest) → left .times ≤ 0 → request
 unfolding requestsLeft
 at-a-record s left h = let e : left .times ≡ 0 = omega arith in rw e
 
-module _ (s : List ℕ) (left : Rest) where
-  pub in-a-run : 0 < left .times → requestsLeft s left ≡ before (left .page ∷ []) (requestsLeft s (rest (left .page) (left .times - 1) (left .from)))
-  unfolding requestsLeft
-  in-a-run h = run-less (left .page) (left .times) (left .from) s h
+pub in-a-run : (s : List ℕ) (left : Rest) → 0 < left .times
+    → requestsLeft s left ≡ before (left .page ∷ []) (requestsLeft s (rest (left .page) (left .times - 1) (left .from)))
+unfolding requestsLeft
+in-a-run s left h = run-less (left .page) (left .times) (left .from) s h
 
-  module _ (none : left .times ≤ 0) (z : 0 < left .from) (h : 0 < length (requestsLeft s left .held)) (r : TraceRecord) (e : traceAnswer r ≡ readTrace s (left .from)) where
-    some-left : 0 < length (requestsFrom s (left .from) .held)
-    some-left = rw (at-a-record s left none) at h
+-- a record, where a request is left: the reader answers it
+record Asked (s : List ℕ) (at : ℕ) : Type 0 where
+  page : ℕ
+  times : ℕ
+  next : ℕ
+  answers : readTrace s at ≡ request page times next
 
-    module _ (page times next : ℕ) (q : r ≡ trace.Request page times next) where
-      answer : readTrace s (left .from) ≡ reading.request page times next
-      answer = sym e ∙ ap traceAnswer q
+asked : (s : List ℕ) (at : ℕ) → 0 < at → 0 < length (requestsFrom s at .held) → (x : Answer) → readTrace s at ≡ x → TraceFacts s at x → Asked s at
+asked s at z h (refused n) e f = let size = ap (λ (g : File ℕ). length (g .held)) (requests-refused s at n e) in absurd (omega arith)
+asked s at z h ended e f = let size = ap (λ (g : File ℕ). length (g .held)) (requests-ended s at e) in absurd (omega arith)
+asked s at z h (sizes k a next) e f = let start = f .start in absurd (omega arith)
+asked s at z h (request page times next) e f = record { page = page; times = times; next = next; answers = e }
+asked s at z h (bundle t n from next) e f = absurd f
+asked s at z h (fetch t page next) e f = absurd f
 
-      pub request-fact : RequestAt s (left .from) page times next
-      request-fact = trace-says s (left .from) (reading.request page times next) answer
+module _ (s : List ℕ) (left : Rest) (none : left .times ≤ 0) (z : 0 < left .from) (h : 0 < length (requestsLeft s left .held)) where
+  abbrev at : ℕ
+  at = left .from
 
-      pub at-request : (0 < next) × (requestsLeft s left ≡ before (page ∷ []) (requestsLeft s (rest page (times - 1) next)))
-      at-request =
-          let f = request-fact .onward in
-          (omega arith, at-a-record s left none ∙ requests-request s (left .from) page times next answer ∙ run-less page times next s (request-fact .some))
+  here : Asked s at
+  here = asked s at z (rw (at-a-record s left none) at h) (readTrace s at) refl (trace-facts s at)
 
-    pub no-sizes : (k a next : ℕ) → r ≡ trace.Sizes k a next → ⊥
-    no-sizes k a next q = let b = trace-says s (left .from) (reading.sizes k a next) (sym e ∙ ap traceAnswer q) .start in omega arith
+  fact : RequestAt s at (here .page) (here .times) (here .next)
+  fact = trace-says s at (request (here .page) (here .times) (here .next)) (here .answers)
 
-    pub no-end : r ≡ trace.End → ⊥
-    no-end q =
-        let size = ap (λ (f : File ℕ). length (f .held)) (requests-ended s (left .from) (sym e ∙ ap traceAnswer q)) in
-        let some = some-left in
-        omega arith
+  -- what the record holds is what is left, but for its first request
+  left-is : (page times next : ℕ) → here .page ≡ page → here .times ≡ times → here .next ≡ next
+      → (0 < next) × (requestsLeft s left ≡ before (page ∷ []) (requestsLeft s (rest page (times - 1) next)))
+  left-is page times next ep et en =
+      let f = fact .onward in
+      let r = at-a-record s left none ∙ requests-request s at (here .page) (here .times) (here .next) (here .answers)
+      ∙ run-less (here .page) (here .times) (here .next) s (fact .some) in
+      (omega arith, rw (← ep, ← et, ← en) r)
 
-    pub no-refusal : (n : ℕ) → r ≡ trace.Refused n → ⊥
-    no-refusal n q =
-        let size = ap (λ (f : File ℕ). length (f .held)) (requests-refused s (left .from) n (sym e ∙ ap traceAnswer q)) in
-        let some = some-left in
-        omega arith
+  -- the two records are told apart by the mark
+  form : {A : Type 0} → (RqAt s at (here .page) (here .times) (here .next) → A) → (RrAt s at (here .page) (here .times) (here .next) → A) → A
+  form single run = split (fact .form) single run
+
+  pub record-inside : at + 6 ≤ length s
+  record-inside = form (λ q. q .inside) (λ q. let i = q .inside in omega arith)
+
+  module _ (mark : num16 (drop at s) ≡ markRR) where
+    run-here : RrAt s at (here .page) (here .times) (here .next)
+    run-here = form (λ q. let m : markRQ ≡ markRR = sym (q .mark) ∙ mark in absurd (omega arith)) (λ q. q)
+
+    pub run-inside : at + 8 ≤ length s
+    run-inside = run-here .inside
+
+    pub run-some : 0 < num16 (drop (at + 6) s)
+    run-some = rw (← run-here .times-is) (fact .some)
+
+    pub run-next : (page times : ℕ) → page ≡ num32 (drop (at + 2) s) → times ≡ num16 (drop (at + 6) s)
+        → (0 < at + 8) × (requestsLeft s left ≡ before (page ∷ []) (requestsLeft s (rest page (times - 1) (at + 8))))
+    run-next page times ep et = left-is page times (at + 8) (run-here .page-is ∙ sym ep) (run-here .times-is ∙ sym et) (run-here .behind)
+
+  module _ (mark : num16 (drop at s) ≡ markRR → ⊥) where
+    single-here : RqAt s at (here .page) (here .times) (here .next)
+    single-here = form (λ q. q) (λ q. absurd (mark (q .mark)))
+
+    pub single-next : (page : ℕ) → page ≡ num32 (drop (at + 2) s)
+        → (0 < at + 6) × (requestsLeft s left ≡ before (page ∷ []) (requestsLeft s (rest page 0 (at + 6))))
+    single-next page ep = left-is page 1 (at + 6) (single-here .page-is ∙ sym ep) (single-here .once) (single-here .behind)

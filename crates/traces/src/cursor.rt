@@ -6,12 +6,13 @@ ghost use mathlib.Core.Path.{_≡_};
 ghost use lib.ListN.{length};
 ghost use Rattle.reading.specs.Files.{before};
 ghost use Rattle.traces.specs.Cursor.{requestsLeft};
-use reading::TraceRecord;
+use records::kind::Kind;
+use records::length;
 
 // What is left of a trace: `times` more requests for a page, then the records from an offset on.
 pub struct Rest {
     pub page: u32,
-    pub times: u16,
+    pub times: u32,
     pub from: usize,
 }
 
@@ -21,41 +22,36 @@ pub struct Request {
     pub left: Rest,
 }
 
-// The next request, where there is one. Inner: whoever calls it knows by `count` that there is.
+// The next request, where there is one. Inner: whoever calls it knows by `count` that there is, and that nothing is damaged before it, so the mark alone is
+// looked at.
 pub fn next_request(file: &[u8], left: Rest) -> Request
     requires { ⌜ (0 < left .from) × (0 < length (requestsLeft (now file) left .held)) ⌝ }
     ensures { λ r. ⌜ (0 < r .left .from) × (requestsLeft (now (file .entry)) left ≡ before (r .page ∷ []) (requestsLeft (now (file .entry)) (r .left))) ⌝ }
 {
-    let page = left.page;
-    let times = left.times;
     let from = left.from;
-    if times > 0 {
+    if left.times > 0 {
+        let page = left.page;
+        let rest = Rest {
+            page,
+            times: left.times - 1,
+            from,
+        };
+        return Request { page, left: rest };
+    }
+    let page = wire::read32(file, from + 2);
+    if wire::read16(file, from) == Kind::RR {
+        let times = wire::read16(file, from + 6) as u32;
         let left = Rest {
             page,
             times: times - 1,
-            from,
+            from: from + length::RR,
         };
         return Request { page, left };
     }
-    match reading::trace(file, from) {
-        TraceRecord::Request {
-            page: own,
-            times: run,
-            next,
-        } => {
-            let left = Rest {
-                page: own,
-                times: run - 1,
-                from: next,
-            };
-            Request { page: own, left }
-        }
-        TraceRecord::Sizes {
-            k: _,
-            a: _,
-            next: _,
-        } => Request { page, left },
-        TraceRecord::End => Request { page, left },
-        TraceRecord::Refused(_) => Request { page, left },
-    }
+    let left = Rest {
+        page,
+        times: 0,
+        from: from + length::RQ,
+    };
+    Request { page, left }
 }
