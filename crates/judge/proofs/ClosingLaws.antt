@@ -10,8 +10,8 @@ use Rattle.lists.specs.Pages.{mem}
 use Rattle.lists.proofs.Choice.{cases}
 use Rattle.paging.specs.Schedule.{withPage}
 use Rattle.reading.specs.Files.{File, before}
-use Rattle.traces.specs.Cursor.{requestsLeft}
-use Rattle.traces.specs.declared.cursor.Rest.{Rest}
+use Rattle.cursor.specs.Cursor.{requestsLeft}
+use Rattle.cursor.specs.declared.Rest.{Rest}
 use Rattle.judging.specs.Judging.{closed, overfull, closing}
 use Rattle.judge.specs.inner.Fetches.{fetchedPages}
 use Rattle.judge.proofs.FetchLaws.{length-fetched}

@@ -15,8 +15,8 @@ use Rattle.lists.proofs.Leaves.{mem-append}
 use Rattle.lists.proofs.Pages.{mem-append-l, mem-append-r}
 use Rattle.paging.specs.Schedule.{Entry, ev, pf, timeOf, heldInTurn}
 use Rattle.wire.specs.Numbers.{num32}
-use Rattle.traces.specs.Cursor.{requestsLeft}
-use Rattle.traces.specs.declared.cursor.Rest.{Rest}
+use Rattle.cursor.specs.Cursor.{requestsLeft}
+use Rattle.cursor.specs.declared.Rest.{Rest}
 use Rattle.judging.specs.Judging.{Standing, Step, on, stop, closing, opened, acted, arrived, stepped}
 use Rattle.judging.proofs.Exact.{closing-length}
 use Rattle.judge.specs.declared.closing.Closing as closings

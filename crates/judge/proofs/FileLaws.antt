@@ -15,10 +15,10 @@ use Rattle.reading.specs.declared.ScheduleRecord.{ScheduleRecord}
 use Rattle.reading.specs.declared.ScheduleRecord.the-variants as recorded
 use Rattle.reading.proofs.Facts.{schedule-says, KaAt}
 use Rattle.traces.specs.Calls.{countOf}
-use Rattle.traces.specs.Cursor.{requestsLeft}
+use Rattle.cursor.specs.Cursor.{requestsLeft}
 use Rattle.traces.specs.Traces.{TraceFile, whole, damaged, traceFile}
 use Rattle.traces.specs.declared.TraceCount.{TraceCount}
-use Rattle.traces.proofs.CursorLaws.{rest, at-a-record}
+use Rattle.cursor.proofs.Laws.{rest, at-a-record}
 use Rattle.traces.proofs.Whole.{WholeTrace, file-says}
 use Rattle.judging.specs.Answer.{Answer, refused}
 use Rattle.judging.specs.Files.{behindTrace, scheduleJudged, judged}

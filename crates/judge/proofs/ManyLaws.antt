@@ -25,7 +25,7 @@ use Rattle.reading.specs.declared.ScheduleRecord.the-variants as recorded
 use Rattle.reading.proofs.Facts.{schedule-says, PfAt}
 use Rattle.reading.proofs.Walk.{entries-fetch}
 use Rattle.judging.specs.Answer.{refused}
-use Rattle.traces.specs.Cursor.{requestsLeft}
+use Rattle.cursor.specs.Cursor.{requestsLeft}
 use Rattle.judging.specs.Judging.{Standing, Step, on, stop, Closed, closed, overfull, closing, opened, acted, andThen, stepped}
 use Rattle.judging.proofs.Exact.{closing-length}
 use Rattle.judge.specs.declared.entries.Place.{Place}

@@ -16,8 +16,8 @@ use Rattle.reading.specs.declared.ScheduleRecord.the-variants as recorded
 use Rattle.reading.proofs.Facts.{schedule-says, EvAt, PfAt}
 use Rattle.reading.proofs.Walk.{entries-refused, entries-ended, entries-bundle, entries-fetch}
 use Rattle.judging.specs.Answer.{Answer, cost, refused}
-use Rattle.traces.specs.Cursor.{requestsLeft}
-use Rattle.traces.specs.declared.cursor.Rest.{Rest}
+use Rattle.cursor.specs.Cursor.{requestsLeft}
+use Rattle.cursor.specs.declared.Rest.{Rest}
 use Rattle.judging.specs.Judging.{closing, stepped, ended}
 use Rattle.judge.specs.declared.closing.Closing as closings
 use Rattle.judge.specs.declared.closing.Closing.the-variants.{Open, Overfull}

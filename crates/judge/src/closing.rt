@@ -3,14 +3,14 @@ ghost use Prim.Native.Nat.{_+_, _*_, _≤_, _<_};
 ghost use mathlib.Core.List.{_++_};
 ghost use mathlib.Core.Path.{_≡_};
 ghost use lib.ListN.{length, take};
-ghost use Rattle.traces.specs.Cursor.{requestsLeft};
+ghost use Rattle.cursor.specs.Cursor.{requestsLeft};
 ghost use Rattle.judging.specs.Judging.{closing};
 ghost use Rattle.judge.specs.inner.Fetches.{fetchedPages};
 ghost use Rattle.judge.specs.inner.Places.{closingOf, Cursor};
 use crate::buffer::add;
 use crate::fetches::settle;
-use traces::cursor::Rest;
-use traces::cursor::next_request;
+use cursor::Rest;
+use cursor::next_request;
 
 // What is left from the first request that is not closed on and the number of pages held, or more than k pages after a request.
 pub(crate) enum Closing {

@@ -11,7 +11,7 @@ use crate::buffer::has;
 use crate::closing::Closing;
 use crate::closing::close_open;
 use crate::fetches::fetched;
-use traces::cursor::Rest;
+use cursor::Rest;
 
 // Where the judge stands between two records: the open request t and what is left of the trace from it on; the number n of pages held after the
 // EVs at t; the PFs at t, from an offset of the schedule on, which end where the next record starts; the cost.

@@ -10,11 +10,11 @@ ghost use Rattle.judge.specs.inner.Verdicts.{verdictAnswer, AtMost};
 use crate::entries::Place;
 use crate::run::Verdict;
 use crate::run::run;
+use cursor::Rest;
 use paging::Sizes;
 use reading::ScheduleRecord;
 use reading::schedule_within;
 use records::length;
-use traces::cursor::Rest;
 
 // A schedule of a trace that was found good, with so many requests behind its KA.
 fn schedule_answer(trace: &[u8], requests: usize, schedule: &[u8], k: u32, a: u32) -> Verdict

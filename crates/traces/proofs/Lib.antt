@@ -1,6 +1,5 @@
 pub mod Whole
 pub mod CountLaws
-pub mod CursorLaws
 pub mod ListLaws
 pub mod CallLaws
 pub mod More

@@ -7,9 +7,9 @@ use mathlib.Core.Path.{_≡_, refl, sym, ap, _∙_}
 use lib.ListN.{length, take, drop, set, length-set, take-append-drop}
 use lib.Seq.{take-suc-set, drop-set-lt, drop-drop}
 use Rattle.reading.specs.Files.{File, requestsFrom, before}
-use Rattle.traces.specs.Cursor.{requestsLeft}
-use Rattle.traces.specs.declared.cursor.Rest.{Rest}
-use Rattle.traces.proofs.CursorLaws.{rest, at-a-record}
+use Rattle.cursor.specs.Cursor.{requestsLeft}
+use Rattle.cursor.specs.declared.Rest.{Rest}
+use Rattle.cursor.proofs.Laws.{rest, at-a-record}
 
 pub record Listing (file : List ℕ) (n : ℕ) (lent pages : List ℕ) (left : Rest) (i : ℕ) : Type 0 where
   pub started : 0 < left .from

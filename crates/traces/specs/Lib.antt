@@ -1,4 +1,3 @@
 pub mod Traces
 pub mod Calls
-pub mod Cursor
 pub mod inner

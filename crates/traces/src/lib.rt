@@ -1,7 +1,6 @@
 // Trace files read whole (document 01, "Files" and "Sizes"; document 02, request 03): the sizes, and the requests one by one, whether they stand in the
 // file as single records or as runs.
-//   count, fill  how many requests a file has; the same with the requests in a lent list
-//   cursor       inner: from request to request through a file that was found good
+// `count` tells how many requests a file has, `fill` the same with the requests in a lent list.
 ghost use Prim.Native.Nat.{_≤_};
 ghost use mathlib.Core.List.{_++_};
 ghost use mathlib.Core.Path.{_≡_};
@@ -10,13 +9,11 @@ ghost use Rattle.reading.specs.Files.{requestsFrom};
 ghost use Rattle.traces.specs.Calls.{countOf, pagesAfter};
 ghost use Rattle.traces.specs.Traces.{traceFile, damaged};
 ghost use Rattle.traces.specs.inner.Counting.{countedIn};
-use crate::cursor::Rest;
-use crate::cursor::next_request;
+use cursor::Rest;
+use cursor::next_request;
 use reading::Start;
 use reading::TraceRecord;
 use records::length;
-
-pub mod cursor;
 
 // A trace's sizes and number of requests; or a refusal's number, and zeros.
 pub struct TraceCount {

@@ -5,7 +5,7 @@ use mathlib.Core.Path.{_≡_}
 use lib.ListN.{length}
 use Rattle.reading.specs.Reading.{readSchedule}
 use Rattle.reading.specs.Reading as reading
-use Rattle.traces.specs.Cursor.{requestsLeft}
+use Rattle.cursor.specs.Cursor.{requestsLeft}
 use Rattle.judge.specs.declared.entries.Place.{Place}
 use Rattle.judge.specs.declared.entries.Step as steps
 use Rattle.judge.specs.declared.entries.Step.the-variants as step

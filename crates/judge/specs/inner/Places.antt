@@ -4,8 +4,8 @@ use mathlib.Core.List.{List, _++_}
 use mathlib.Core.Path.{_≡_}
 use lib.Dec.{ltb}
 use lib.ListN.{length, take}
-use Rattle.traces.specs.Cursor.{requestsLeft}
-use Rattle.traces.specs.declared.cursor.Rest.{Rest}
+use Rattle.cursor.specs.Cursor.{requestsLeft}
+use Rattle.cursor.specs.declared.Rest.{Rest}
 use Rattle.judging.specs.Judging.{Standing}
 use Rattle.judging.specs.Judging as judging
 use Rattle.judge.specs.declared.closing.Closing as closings

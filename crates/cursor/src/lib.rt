@@ -1,11 +1,11 @@
-// From request to request through a trace's file that was found good. A run is not written out: its rest is a number beside its page, and reading on inside
-// it looks at no byte of the file.
+// Inner: from request to request through a trace's file that was found good (document 02, request 03). A run is not written out: its rest is a number beside
+// its page, and reading on inside it looks at no byte of the file.
 ghost use Prim.Native.Nat.{_<_};
 ghost use mathlib.Core.List.{[], _∷_};
 ghost use mathlib.Core.Path.{_≡_};
 ghost use lib.ListN.{length};
 ghost use Rattle.reading.specs.Files.{before};
-ghost use Rattle.traces.specs.Cursor.{requestsLeft};
+ghost use Rattle.cursor.specs.Cursor.{requestsLeft};
 use records::kind::Kind;
 use records::length;
 
@@ -22,8 +22,7 @@ pub struct Request {
     pub left: Rest,
 }
 
-// The next request, where there is one. Inner: whoever calls it knows by `count` that there is, and that nothing is damaged before it, so the mark alone is
-// looked at.
+// The next request, where there is one. Whoever calls it has counted the requests (crate `traces`), so the mark alone is looked at.
 pub fn next_request(file: &[u8], left: Rest) -> Request
     requires { ⌜ (0 < left .from) × (0 < length (requestsLeft (now file) left .held)) ⌝ }
     ensures { λ r. ⌜ (0 < r .left .from) × (requestsLeft (now (file .entry)) left ≡ before (r .page ∷ []) (requestsLeft (now (file .entry)) (r .left))) ⌝ }

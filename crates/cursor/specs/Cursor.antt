@@ -3,7 +3,7 @@ use Prim.Native.Nat.{ℕ}
 use mathlib.Core.List.{List}
 use lib.ListN.{replicate}
 use Rattle.reading.specs.Files.{File, before, requestsFrom}
-use Rattle.traces.specs.declared.cursor.Rest.{Rest}
+use Rattle.cursor.specs.declared.Rest.{Rest}
 
 -- what is left of a file: the rest of a run, then the records from an offset on
 unfoldable pub requestsLeft : (file : List ℕ) → Rest → File ℕ

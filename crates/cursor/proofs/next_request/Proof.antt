@@ -1,10 +1,10 @@
--- `traces::cursor::next_request` meets its contract: one of a run is taken, or the record at the offset is read, a run or a single request.
+-- `cursor::next_request` meets its contract: one of a run is taken, or the record at the offset is read, a run or a single request.
 use native.Mathlib.Omega.{arith}
 use mathlib.Core.Path.{sym, _∙_}
 use borrow.Author.Needs.{needs}
-use Rattle.traces.proofs.CursorLaws.{in-a-run, record-inside, run-inside, run-some, run-next, single-next}
-use Rattle.traces.proofs.cursor.next_request.Statement.{statement}
-use Rattle.traces.proofs.cursor.next_request.Tie as tie
+use Rattle.cursor.proofs.Laws.{in-a-run, record-inside, run-inside, run-some, run-next, single-next}
+use Rattle.cursor.proofs.next_request.Statement.{statement}
+use Rattle.cursor.proofs.next_request.Tie as tie
 
 returns : tie.Need-returns
 returns c =

@@ -11,8 +11,8 @@ use Rattle.reading.specs.Files.{File, requestsFrom, before}
 use Rattle.reading.specs.Reading.{Answer, refused, ended, sizes, request, bundle, fetch, readTrace}
 use Rattle.reading.proofs.Facts.{TraceFacts, trace-facts, trace-says, RequestAt, RqAt, RrAt}
 use Rattle.reading.proofs.Walk.{requests-refused, requests-ended, requests-request}
-use Rattle.traces.specs.Cursor.{requestsLeft}
-use Rattle.traces.specs.declared.cursor.Rest.{Rest}
+use Rattle.cursor.specs.Cursor.{requestsLeft}
+use Rattle.cursor.specs.declared.Rest.{Rest}
 
 abbrev pub rest : (page times from : ℕ) → Rest
 rest page times from = record { page = page; times = times; from = from }
