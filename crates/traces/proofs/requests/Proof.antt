@@ -26,7 +26,13 @@ returns c =
     too-many _ _ _ _ inv (trace .result) (trace .ensures) _ _ _ (c .before .before .times .given .1) (c .if1 .taken)
 
 add-n : tie.Need-add-n Inv-loop μ-loop
-add-n c = let few = c .before .before .before .before .before .loop .inv .few in let room = c .if1 .left in omega arith
+add-n c =
+    let trace = c .before .before .before .before .trace in
+    let inv = c .before .before .before .before .before .loop .inv in
+    let few = inv .few in
+    let room = c .if1 .left in
+    let some = request-fact _ _ _ _ inv (trace .result) (trace .ensures) _ _ _ (c .before .before .times .given .1) .some in
+    omega arith
 
 loop-less : tie.Need-loop-less Inv-loop μ-loop
 loop-less c =
