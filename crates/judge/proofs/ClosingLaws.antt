@@ -43,7 +43,8 @@ pub record Closes (trace : List ℕ) (k : ℕ) (first : Rest) (count : ℕ) (hel
   pub damage : requestsLeft trace rest .damage ≡ requestsLeft trace first .damage
   pub same : closing k left (requestsLeft trace rest .held) (take m held) ≡ closing k count (requestsLeft trace first .held) (take n held₀)
 
-module _ (trace : List ℕ) (k : ℕ) (first : Rest) (count : ℕ) (held₀ : List ℕ) (n : ℕ) (rest : Rest) (left m : ℕ) (held : List ℕ) (c : Closes trace k first count held₀ n rest left m held) where
+module _ (trace : List ℕ) (k : ℕ) (first : Rest) (count : ℕ) (held₀ : List ℕ) (n : ℕ) (rest : Rest) (left m : ℕ) (held : List ℕ)
+    (c : Closes trace k first count held₀ n rest left m held) where
   pub closes-done : left ≤ 0 → closed (requestsLeft trace rest .held) (take m held) ≡ closing k count (requestsLeft trace first .held) (take n held₀)
   closes-done h = sym (close-none k left _ _ h) ∙ c .same
 

@@ -53,7 +53,8 @@ module _ (at at′ : ℕ) where
 module _ (s s′ : List ℕ) where
   -- one record: the requests behind it are the same by `again`
   on : (at at′ : ℕ) → 0 < at → 0 < at′ → at ≤ length s → at′ ≤ length s′ → drop at s ≡ drop at′ s′
-      → ((next next′ : ℕ) → at < next → 0 < next′ → next ≤ length s → next′ ≤ length s′ → drop next s ≡ drop next′ s′ → requestsFrom s next ≡ requestsFrom s′ next′)
+      → ((next next′ : ℕ) → at < next → 0 < next′ → next ≤ length s → next′ ≤ length s′ → drop next s ≡ drop next′ s′
+      → requestsFrom s next ≡ requestsFrom s′ next′)
       → (x : Answer) → TraceFacts s at x → onward (pagesIn x) x (requestsFrom s) ≡ onward (pagesIn (moved at at′ x)) (moved at at′ x) (requestsFrom s′)
   on at at′ z z′ h h′ e again (refused m) f = refl
   on at at′ z z′ h h′ e again ended f = refl
