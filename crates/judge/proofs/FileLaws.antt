@@ -2,7 +2,7 @@
 use Prim.Native.Nat.{ℕ, _+_, _*_, _≤_}
 use native.Mathlib.Omega.{arith}
 use mathlib.Core.List.{List}
-use mathlib.Core.Path.{_≡_, refl, sym, ap, _∙_}
+use mathlib.Core.Path.{_≡_, sym, ap, _∙_}
 use lib.ListN.{length}
 use borrow.Author.Tests.{ne-eqb, eq-eqb}
 use Rattle.lists.specs.Choice.{_and_}
@@ -16,10 +16,10 @@ use Rattle.reading.specs.declared.ScheduleRecord.the-variants as recorded
 use Rattle.reading.proofs.Facts.{schedule-says, KaAt}
 use Rattle.traces.specs.Calls.{countOf}
 use Rattle.cursor.specs.Cursor.{requestsLeft}
-use Rattle.traces.specs.Traces.{TraceFile, whole, damaged, traceFile}
+use Rattle.traces.specs.Traces.{TraceFile, traceFile}
 use Rattle.traces.specs.declared.TraceCount.{TraceCount}
 use Rattle.cursor.proofs.Laws.{rest, at-a-record}
-use Rattle.traces.proofs.Whole.{WholeTrace, file-says}
+use Rattle.traces.proofs.CallLaws.{CountedWhole, count-refused, count-whole}
 use Rattle.judging.specs.Answer.{Answer, refused}
 use Rattle.judging.specs.Files.{behindTrace, scheduleJudged, judged}
 use Rattle.judge.specs.declared.entries.Place.{Place}
@@ -83,43 +83,23 @@ module _ (trace schedule : List ℕ) (n k a : ℕ) (r : ScheduleRecord) (e : sch
 
 -- The trace: it is refused, or what its count tells is what stands in the file
 
-module _ (trace schedule : List ℕ) (told : TraceCount) where
-  abbrev Judged : TraceFile → Answer
-  Judged x = behindTrace x (λ k a pages. scheduleJudged k a pages schedule)
-
-  barred : (x : TraceFile) → told ≡ countOf x → (told .refusal ≡ 0 → ⊥) → refused (told .refusal) ≡ Judged x
-  barred (whole k a pages) e h = absurd (h (ap (λ (r : TraceCount). r .refusal) e))
-  barred (damaged number) e h = ap (λ (r : TraceCount). refused (r .refusal)) e
-
-  pub barred-trace : told ≡ countOf (traceFile longestTrace trace) → (told .refusal ≡ 0 → ⊥) → refused (told .refusal) ≡ judged trace schedule
+module _ (trace schedule : List ℕ) (told : TraceCount) (e : told ≡ countOf (traceFile longestTrace trace)) where
+  pub barred-trace : (told .refusal ≡ 0 → ⊥) → refused (told .refusal) ≡ judged trace schedule
   unfolding judged
-  barred-trace e h = barred (traceFile longestTrace trace) e h
+  barred-trace h = rw (count-refused longestTrace trace told e h)
 
-  record Good (x : TraceFile) : Type 0 where
-    undamaged : requestsFrom trace 6 .damage ≡ 0
-    counted : told .requests ≡ length (requestsFrom trace 6 .held)
-    small : told .k ≤ 256
-    answers : Judged x ≡ scheduleJudged (told .k) (told .a) (requestsFrom trace 6 .held) schedule
+  module _ (h : told .refusal ≡ 0) where
+    counted : CountedWhole longestTrace trace told
+    counted = count-whole longestTrace trace told e h
 
-  good : (x : TraceFile) → traceFile longestTrace trace ≡ x → told ≡ countOf x → told .refusal ≡ 0 → Good x
-  good (whole k a pages) w e h =
-      let f : WholeTrace longestTrace trace k a pages = file-says longestTrace trace (whole k a pages) w in
-      let held : requestsFrom trace 6 .held ≡ pages = ap (λ (g : File ℕ). g .held) (f .read) in
-      let right = f .right in
-      let k-is : told .k ≡ k = ap (λ (r : TraceCount). r .k) e in
-      let a-is : told .a ≡ a = ap (λ (r : TraceCount). r .a) e in
-      record {
-        undamaged = ap (λ (g : File ℕ). g .damage) (f .read);
-        counted = rw held (ap (λ (r : TraceCount). r .requests) e);
-        small = rw k-is (omega arith);
-        answers = rw (k-is, a-is, held);
-      }
-  good (damaged number) w e h = absurd (file-says longestTrace trace (damaged number) w .0 (sym (ap (λ (r : TraceCount). r .refusal) e) ∙ h))
+    held : requestsFrom trace 6 .held ≡ counted .pages
+    held = ap (λ (g : File ℕ). g .held) (counted .trace .read)
 
-  module _ (e : told ≡ countOf (traceFile longestTrace trace)) (h : told .refusal ≡ 0) where
     pub whole-trace : (requestsFrom trace 6 .damage ≡ 0) × (told .requests ≡ length (requestsFrom trace 6 .held)) × (told .k ≤ 256)
-    whole-trace = let g = good (traceFile longestTrace trace) refl e h in (g .undamaged, g .counted, g .small)
+    whole-trace = (ap (λ (g : File ℕ). g .damage) (counted .trace .read), rw held (counted .all), counted .trace .right .k-high)
 
     pub trace-judged : (x : Answer) → x ≡ scheduleJudged (told .k) (told .a) (requestsFrom trace 6 .held) schedule → x ≡ judged trace schedule
     unfolding judged
-    trace-judged x y = y ∙ sym (good (traceFile longestTrace trace) refl e h .answers)
+    trace-judged x y =
+        y ∙ ap (λ (pages : List ℕ). scheduleJudged (told .k) (told .a) pages schedule) held
+        ∙ sym (ap (λ (z : TraceFile). behindTrace z (λ k a pages. scheduleJudged k a pages schedule)) (counted .is))

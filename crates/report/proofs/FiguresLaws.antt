@@ -11,9 +11,9 @@ use Rattle.paging.proofs.Refusals.{trace-taken}
 use Rattle.paging.proofs.Table.{tabled-top}
 use Rattle.paging.specs.declared.Keeping.the-variants.{ByRequest, ByLoad}
 use Rattle.traces.specs.Calls.{countOf, pagesAfter}
-use Rattle.traces.specs.Traces.{TraceFile, whole, damaged, traceFile}
+use Rattle.traces.specs.Traces.{TraceFile, traceFile}
 use Rattle.traces.specs.declared.TraceCount.{TraceCount}
-use Rattle.traces.proofs.Whole.{WholeTrace, file-says}
+use Rattle.traces.proofs.CallLaws.{CountedWhole, count-refused, count-whole}
 use Rattle.queue.specs.Calls.{totalsOf}
 use Rattle.queue.specs.declared.Totals.{Totals}
 use Rattle.layers.specs.Traces.{traceTotals}
@@ -60,42 +60,28 @@ module _ (input : List ℕ) (told : TraceCount) where
   abbrev lent : List ℕ
   lent = replicate 4096 0
 
-  barred : (x : TraceFile) → told ≡ countOf x → (told .refusal ≡ 0 → ⊥) → refusedReport (told .refusal) ≡ reported x
-  barred (whole k a pages) e n = absurd (n (ap (λ (r : TraceCount). r .refusal) e))
-  barred (damaged number) e n = ap (λ (r : TraceCount). refusedReport (r .refusal)) e
-
-  record Taken (x : TraceFile) : Type 0 where
-    right : SizesRight (told .k) (told .a)
-    short : told .requests ≤ 4096
-    shows : (now : List ℕ) → now ≡ pagesAfter x lent → figures (told .k) (told .a) (take (told .requests) now) ≡ reported x
-
-  taken : (x : TraceFile) → traceFile 4096 input ≡ x → told ≡ countOf x → told .refusal ≡ 0 → Taken x
-  taken (whole k a pages) w e z =
-      let f : WholeTrace 4096 input k a pages = file-says 4096 input (whole k a pages) w in
-      let k-is : told .k ≡ k = ap (λ (r : TraceCount). r .k) e in
-      let a-is : told .a ≡ a = ap (λ (r : TraceCount). r .a) e in
-      let size : told .requests ≡ length pages = ap (λ (r : TraceCount). r .requests) e in
-      record {
-        right = rw (k-is, a-is) (f .right);
-        short = rw size (f .few);
-        shows = λ now q. rw (k-is, a-is, size, q, take-append-seam pages (drop (length pages) lent)) refl;
-      }
-  taken (damaged number) w e z = absurd (file-says 4096 input (damaged number) w .0 (sym (ap (λ (r : TraceCount). r .refusal) e) ∙ z))
-
   module _ (e : told ≡ countOf (traceFile (length lent) input)) where
     at-4096 : told ≡ countOf (traceFile 4096 input)
     at-4096 = e ∙ ap (λ (n : ℕ). countOf (traceFile n input)) (length-replicate {A = ℕ} 4096 0)
 
     pub input-refused : (x : Report) → x ≡ refusedReport (told .refusal) → (told .refusal ≡ 0 → ⊥) → x ≡ reportOf input
     unfolding reportOf
-    input-refused x q n = q ∙ barred (traceFile 4096 input) at-4096 n
+    input-refused x q n = q ∙ sym (ap reported (count-refused 4096 input told at-4096 n))
 
     module _ (z : told .refusal ≡ 0) where
+      counted : CountedWhole 4096 input told
+      counted = count-whole 4096 input told at-4096 z
+
       pub input-right : SizesRight (told .k) (told .a) × (told .requests ≤ 4096)
-      input-right = let t = taken (traceFile 4096 input) refl at-4096 z in (t .right, t .short)
+      input-right = let few = counted .trace .few in (counted .trace .right, rw (counted .all) few)
+
+      -- the first places of the list have the requests
+      listed : (now : List ℕ) → now ≡ pagesAfter (traceFile (length lent) input) lent → take (told .requests) now ≡ counted .pages
+      listed now q =
+          let filled = q ∙ ap (λ (n : ℕ). pagesAfter (traceFile n input) lent) (length-replicate {A = ℕ} 4096 0) ∙ ap (λ (x : TraceFile). pagesAfter x lent) (counted .is) in
+          ap (λ (n : ℕ). take n now) (counted .all) ∙ ap (take (length (counted .pages))) filled ∙ take-append-seam (counted .pages) (drop (length (counted .pages)) lent)
 
       pub input-figures : (now : List ℕ) → now ≡ pagesAfter (traceFile (length lent) input) lent → (x : Report)
           → x ≡ figures (told .k) (told .a) (take (told .requests) now) → x ≡ reportOf input
       unfolding reportOf
-      input-figures now q x w =
-          w ∙ taken (traceFile 4096 input) refl at-4096 z .shows now (q ∙ ap (λ (n : ℕ). pagesAfter (traceFile n input) lent) (length-replicate {A = ℕ} 4096 0))
+      input-figures now q x w = w ∙ ap (figures (told .k) (told .a)) (listed now q) ∙ sym (ap reported (counted .is))

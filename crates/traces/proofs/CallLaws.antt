@@ -37,34 +37,54 @@ module _ (limit : ℕ) (file : List ℕ) where
         = ap (λ (x : Counted). x .requests) c ∙ rw (← number, h) in
         rw (← trace-first file 0 refl e) (rw (← number, h) (ap (λ (n : ℕ). record { refusal = 0; k = k; a = a; requests = n }) size))
 
+-- ---- what a count says of its file: that it is damaged with this number, or whole with these sizes and as many requests
+
+pub record CountedWhole (limit : ℕ) (file : List ℕ) (told : TraceCount) : Type 0 where
+  pub pages : List ℕ
+  pub is : traceFile limit file ≡ whole (told .k) (told .a) pages
+  pub all : told .requests ≡ length pages
+  pub trace : WholeTrace limit file (told .k) (told .a) pages
+
+module _ (limit : ℕ) (file : List ℕ) (told : TraceCount) (e : told ≡ countOf (traceFile limit file)) where
+  damaged-as : (x : TraceFile) → told ≡ countOf x → (told .refusal ≡ 0 → ⊥) → x ≡ damaged (told .refusal)
+  damaged-as (whole k a pages) q h = absurd (h (ap (λ (r : TraceCount). r .refusal) q))
+  damaged-as (damaged number) q h = ap (λ (r : TraceCount). damaged (r .refusal)) (sym q)
+
+  pub count-refused : (told .refusal ≡ 0 → ⊥) → traceFile limit file ≡ damaged (told .refusal)
+  count-refused h = damaged-as (traceFile limit file) e h
+
+  whole-as : (x : TraceFile) → traceFile limit file ≡ x → told ≡ countOf x → told .refusal ≡ 0 → CountedWhole limit file told
+  whole-as (whole k a pages) w q h =
+      let k-is : told .k ≡ k = ap (λ (r : TraceCount). r .k) q in
+      let a-is : told .a ≡ a = ap (λ (r : TraceCount). r .a) q in
+      let is : traceFile limit file ≡ whole (told .k) (told .a) pages = rw (k-is, a-is) w in
+      record { pages = pages; is = is; all = ap (λ (r : TraceCount). r .requests) q; trace = file-says limit file (whole (told .k) (told .a) pages) is }
+  whole-as (damaged number) w q h = absurd (file-says limit file (damaged number) w .0 (sym (ap (λ (r : TraceCount). r .refusal) q) ∙ h))
+
+  pub count-whole : told .refusal ≡ 0 → CountedWhole limit file told
+  count-whole h = whole-as (traceFile limit file) refl e h
+
 -- ---- filling
 
-module _ (limit : ℕ) (file lent : List ℕ) (told : TraceCount) where
-  unchanged : (x : TraceFile) → told ≡ countOf x → (told .refusal ≡ 0 → ⊥) → lent ≡ pagesAfter x lent
-  unchanged (whole k a pages) e h = absurd (h (ap (λ (r : TraceCount). r .refusal) e))
-  unchanged (damaged number) e h = refl
+-- the list with the requests of a whole file in front
+in-front : (lent : List ℕ) (x : TraceFile) (k a n : ℕ) (pages held : List ℕ) → x ≡ whole k a pages → held ≡ pages → n ≡ length pages
+    → held ++ drop n lent ≡ pagesAfter x lent
+in-front lent x k a n pages held is same all = rw (is, same, all)
 
-  pub refused-unchanged : told ≡ countOf (traceFile limit file) → (told .refusal ≡ 0 → ⊥) → lent ≡ pagesAfter (traceFile limit file) lent
-  refused-unchanged e h = unchanged (traceFile limit file) e h
+module _ (limit : ℕ) (file lent : List ℕ) (told : TraceCount) (e : told ≡ countOf (traceFile limit file)) where
+  pub refused-unchanged : (told .refusal ≡ 0 → ⊥) → lent ≡ pagesAfter (traceFile limit file) lent
+  refused-unchanged h = rw (count-refused limit file told e h)
 
-  -- the requests are all there, and once they stand in the list it is as promised
-  record Fills (x : TraceFile) : Type 0 where
-    all : told .requests ≡ length (requestsFrom file 6 .held)
-    few : told .requests ≤ limit
-    after : (pages : List ℕ) → pages ≡ requestsFrom file 6 .held ++ drop (told .requests) lent → pages ≡ pagesAfter x lent
+  module _ (h : told .refusal ≡ 0) where
+    counted : CountedWhole limit file told
+    counted = count-whole limit file told e h
 
-  fills : (x : TraceFile) → traceFile limit file ≡ x → told ≡ countOf x → told .refusal ≡ 0 → Fills x
-  fills (whole k a pages) w e h =
-      let f : WholeTrace limit file k a pages = file-says limit file (whole k a pages) w in
-      let held : requestsFrom file 6 .held ≡ pages = ap (λ (y : File ℕ). y .held) (f .read) in
-      let size : told .requests ≡ length pages = ap (λ (r : TraceCount). r .requests) e in
-      let few = f .few in
-      record { all = rw held size; few = rw size few; after = λ now q. q ∙ rw (held, size) }
-  fills (damaged number) w e h = absurd (file-says limit file (damaged number) w .0 (sym (ap (λ (r : TraceCount). r .refusal) e) ∙ h))
+    held : requestsFrom file 6 .held ≡ counted .pages
+    held = ap (λ (y : File ℕ). y .held) (counted .trace .read)
 
-  module _ (e : told ≡ countOf (traceFile limit file)) (h : told .refusal ≡ 0) where
     pub all-there : (told .requests ≡ length (requestsFrom file 6 .held)) × (told .requests ≤ limit)
-    all-there = let f = fills (traceFile limit file) refl e h in (f .all, f .few)
+    all-there = let few = counted .trace .few in (rw held (counted .all), rw (counted .all) few)
 
-    pub list-filled : (pages : List ℕ) → pages ≡ requestsFrom file 6 .held ++ drop (told .requests) lent → pages ≡ pagesAfter (traceFile limit file) lent
-    list-filled = fills (traceFile limit file) refl e h .after
+    -- once the requests stand in the list it is as promised
+    pub list-filled : (now : List ℕ) → now ≡ requestsFrom file 6 .held ++ drop (told .requests) lent → now ≡ pagesAfter (traceFile limit file) lent
+    list-filled now q = q ∙ in-front lent (traceFile limit file) (told .k) (told .a) (told .requests) (counted .pages) _ (counted .is) held (counted .all)
