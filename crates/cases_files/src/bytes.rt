@@ -1,8 +1,8 @@
 // Lists of numbers as bytes.
 ghost use Rattle.io.specs.Counts.{Counts};
 
-// The most bytes of a file here.
-pub(crate) const ROOM: usize = 64;
+// The most bytes of a file here: enough for an EV of 257 pages.
+pub(crate) const ROOM: usize = 2048;
 
 // The numbers of a list as bytes, the lower 8 bits of each, as many as there is room for; their count.
 pub(crate) fn of_list(list: &[u32], bytes: &mut [u8]) -> usize

@@ -12,7 +12,7 @@ use Rattle.paging.specs.Schedule.{Entry, ev}
 use Rattle.paging.specs.Same.{samePages, sameEntries, shift}
 use Rattle.paging.specs.declared.Keeping.{Keeping}
 use Rattle.paging.specs.declared.Keeping.the-variants.{ByRequest, ByLoad}
-use Rattle.records.specs.Bytes.{rq, rr, traceBytes, singles}
+use Rattle.records.specs.Bytes.{rq, rr, traceBytes, singles, evLengthAnswer}
 use Rattle.queue.specs.Calls.{cacheOf, evictedOf, totalsOf}
 use Rattle.queue.specs.Serving.{emptyRun}
 use Rattle.queue.specs.Standing.{Call, State, afterCalls, emptyState}
@@ -50,6 +50,8 @@ pub data Row : Type 0 where
   replies : (run : LayersRun) (pages numbers : List ℕ) (page : ℕ) (fields : List ℕ) → Row
   -- after some requests, the refusal of a further one, 0 for none
   refuses : (k a places : ℕ) (pages : List ℕ) (page number : ℕ) → Row
+  -- the length in bytes that is answered for an EV of n pages; 0 where no EV has so many
+  measures : (n answered : ℕ) → Row
 
 -- Computed by the calls
 
@@ -141,6 +143,7 @@ right (answers k a places pages said counts) =
 right (replies run pages numbers page fields) = samePages (fieldsOf (requestReply run pages numbers page)) fields
 right (refuses k a places pages page number) =
     let x = layersAt k a places pages in eqb (requestRefusal (x .run) (x .pages) (x .numbers) page) number
+right (measures n answered) = eqb (evLengthAnswer n) answered
 
 -- The table
 
@@ -226,6 +229,11 @@ requestedCases =
     ∷ reports (traceBytes 3 2 (rq 5 ∷ rr 5 0 ∷ [])) (refusedReport 13)
     ∷ reports (traceBytes 3 2 (rr 5 4095 ∷ rr 5 2 ∷ rr 5 0 ∷ [])) (refusedReport 3)
     ∷ reports (traceBytes 3 2 (rr 5 4096 ∷ rr 5 0 ∷ [])) (refusedReport 13)
+    -- 04. an EV's length; no EV has 257 pages
+    ∷ measures 0 8
+    ∷ measures 1 12
+    ∷ measures 256 1032
+    ∷ measures 257 0
     ∷ []
 
 abbrev pub allRight : List Row → Bool

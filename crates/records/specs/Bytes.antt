@@ -84,9 +84,9 @@ scheduleBytes k a entries = kaBytes k a ++ joined entryBytes entries
 abbrev pub evLength : ℕ → ℕ
 evLength n = 8 + 4 * n
 
--- entry n of the table of EV lengths, for n up to 256. No EV has more pages; 0 is answered for more
-abbrev pub tableEntry : ℕ → ℕ
-tableEntry n = pick (ltb largestK n) 0 (evLength n)
+-- the length that is answered for n pages. No EV has more than 256; 0 is answered for more
+abbrev pub evLengthAnswer : ℕ → ℕ
+evLengthAnswer n = pick (ltb largestK n) 0 (evLength n)
 
 -- entries that have a record: an EV names 1 to 256 pages, and no more than a bound (a, for the judge)
 abbrev pub Writable : ℕ → Entry → Type 0

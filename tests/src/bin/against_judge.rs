@@ -165,6 +165,20 @@ fn full_size(judge: &mut Judge, rng: &mut Rng) {
     }
 }
 
+/// Schedules of three bundles of every size, whole and cut by a byte.
+fn every_bundle(judge: &mut Judge) {
+    for a in 1..=256 {
+        for k in [a, 256] {
+            let pages: Vec<u32> = (0..k + 3 * a).collect();
+            let trace = trace_file(k, a, &pages);
+            let best = min::run(k, a, &pages).expect("k and a are sound").bundles;
+            let schedule = min::schedule(k, a, &best);
+            judge.expect("a bundle size", &trace, &schedule, 3);
+            judge.expect("a bundle size, cut", &trace, &schedule[..schedule.len() - 1], -5);
+        }
+    }
+}
+
 /// As many requests as are taken, with long runs, in three editions.
 fn full_size_runs(judge: &mut Judge, rng: &mut Rng) {
     for (kind, (k, a)) in KINDS.into_iter().zip([(256, 1), (256, 100), (3, 2), (40, 40)]) {
@@ -251,6 +265,7 @@ fn main() {
     every_cut(&mut judge, &mut rng);
     drawn(&mut judge, &mut rng);
     full_size(&mut judge, &mut rng);
+    every_bundle(&mut judge);
     full_size_runs(&mut judge, &mut rng);
     many_fetches(&mut judge);
     fetches_beyond_the_buffer(&mut judge, &mut rng);

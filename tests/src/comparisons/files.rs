@@ -9,6 +9,9 @@ use crate::schedules::legal;
 use crate::states::{border_sizes, end_page};
 use crate::traces::{any, any_parked, any_sizes, edition, sizes};
 
+/// The length of the KA that a file starts with.
+const KA: usize = 6;
+
 /// Every reader at an offset.
 fn read_at(reached: &mut Reached, file: &Lent<u8>, at: usize, bound: u32) {
     reached.compare(&ReadTrace { file: file.clone(), at });
@@ -122,6 +125,24 @@ fn writers(reached: &mut Reached, rng: &mut Rng) {
     }
 }
 
+/// EVs of every number of pages that there is, and of 257: written into as many bytes as the model's record has,
+/// one fewer and one more, and read whole and cut by a byte.
+fn every_bundle(reached: &mut Reached, rng: &mut Rng) {
+    for n in 0..=257 {
+        let (t, pages) = (rng.word(), (0..n).map(|_| rng.word()).collect::<Vec<_>>());
+        let file = schedule_file(256, 256, &[Entry::Ev { t, pages: pages.clone() }]);
+        let record = file.len() - KA;
+        for length in [record - 1, record, record + 1] {
+            for at in [0, 3] {
+                reached.compare(&WriteEv { bytes: Lent::marks(at + length), at, t, pages: pages.clone() });
+            }
+        }
+        for cut in [0, 1] {
+            read_at(reached, &Lent::new(&file[..file.len() - cut]), KA, n);
+        }
+    }
+}
+
 /// The EV writer with the longest page lists and with too long ones.
 fn long_writers(reached: &mut Reached, rng: &mut Rng) {
     for n in [0, 1, 255, 256, 257, 300, 65_536] {
@@ -144,5 +165,6 @@ pub fn all(reached: &mut Reached, rng: &mut Rng) {
     readers(reached, rng);
     long_bundles(reached);
     writers(reached, rng);
+    every_bundle(reached, rng);
     long_writers(reached, rng);
 }

@@ -94,6 +94,18 @@ fn every_length(reached: &mut Reached, rng: &mut Rng) {
     }
 }
 
+/// Schedules of three bundles of every size, in as many bytes as are needed and in one fewer.
+fn every_bundle(reached: &mut Reached) {
+    for a in 1..=256 {
+        for k in [a, a.max(128), 256] {
+            let trace: Vec<u32> = (0..k + 3 * a).collect();
+            let needed = schedule_length(k, a, &trace);
+            schedule(reached, k, a, &trace, needed);
+            schedule(reached, k, a, &trace, needed - 1);
+        }
+    }
+}
+
 /// As many requests as are taken, and one more.
 fn long(reached: &mut Reached, rng: &mut Rng) {
     for kind in KINDS {
@@ -130,5 +142,6 @@ pub fn all(reached: &mut Reached, rng: &mut Rng) {
     }
     short(reached, rng);
     every_length(reached, rng);
+    every_bundle(reached);
     long(reached, rng);
 }

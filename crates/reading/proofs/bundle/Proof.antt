@@ -2,7 +2,7 @@
 use mathlib.Core.Path.{_∙_, _≡_}
 use borrow.Author.Needs.{needs}
 use Rattle.records.specs.Bytes.{evLength}
-use Rattle.records.proofs.Lengths.{entry-is}
+use Rattle.records.proofs.Lengths.{ev-length-is}
 use Rattle.reading.proofs.Reading.{ev-cut, ev-count, ev-pages-cut, ev-taken, count-none, count-above, count-far, count-fine}
 use Rattle.reading.proofs.bundle.Statement.{statement}
 use Rattle.reading.proofs.bundle.Tie as tie
@@ -59,7 +59,7 @@ returns-5 c =
     let if4 = c .before .before .if4 in
     let ev-length = c .before .ev-length in
     let e : ev-length .result ≡ evLength (read16 .result) = ev-length .ensures ∙
-    entry-is _ (if4 .left) in
+    ev-length-is _ (if4 .left) in
     ev-pages-cut s offset bound _ (if1 .left)
     (read16 .ensures)
     (count-fine _ _ (if2 .left) (if3 .left) (if4 .left))
@@ -78,7 +78,7 @@ returns-6 c =
     let if4 = c .before .before .before .if4 in
     let ev-length = c .before .before .ev-length in
     let e : ev-length .result ≡ evLength (read16 .result) =
-    ev-length .ensures ∙ entry-is _ (if4 .left) in
+    ev-length .ensures ∙ ev-length-is _ (if4 .left) in
     rw e
     (ev-taken s offset bound _ (if1 .left)
     (read16 .ensures)

@@ -7,10 +7,10 @@ use Rattle.cases_files.proofs.bytes.into_list.Statement.{statement}
 use Rattle.cases_files.proofs.bytes.into_list.Tie as tie
 
 abbrev Inv-loop : tie.InvT-loop
-Inv-loop bytes list₀ i₀ list i = (i ≤ 64) × (i ≤ length list) × (length list ≡ length list₀)
+Inv-loop bytes list₀ i₀ list i = (i ≤ 2048) × (i ≤ length list) × (length list ≡ length list₀)
 
 abbrev μ-loop : tie.MeasureT-loop
-μ-loop bytes list₀ i₀ list i = 64 - i
+μ-loop bytes list₀ i₀ list i = 2048 - i
 
 pub into-list-spec : {M : Type 1} → statement M
 into-list-spec =

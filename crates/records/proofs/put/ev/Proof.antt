@@ -7,7 +7,7 @@ use borrow.Author.Needs.{needs}
 use Rattle.wire.specs.Numbers.{bytes16, bytes32, allBytes32}
 use Rattle.records.specs.Bytes.{evBytes, evLength}
 use Rattle.records.specs.Marks.{markEV}
-use Rattle.records.proofs.Lengths.{entry-is, length-evBytes}
+use Rattle.records.proofs.Lengths.{ev-length-is, length-evBytes}
 use Rattle.records.proofs.Writing.{put-barred, put-short, put-whole, stored4, pages-none, pages-many, pages-fine}
 use Rattle.records.proofs.put.ev.Statement.{statement}
 use Rattle.records.proofs.put.ev.Tie as tie
@@ -37,7 +37,7 @@ returns-3 c =
     let if1 = c .before .before .before .if1 in
     let if2 = c .before .before .if2 in
     let ev-length = c .before .ev-length in
-    let e : ev-length .result ≡ evLength (length pages) = ev-length .ensures ∙ entry-is _
+    let e : ev-length .result ≡ evLength (length pages) = ev-length .ensures ∙ ev-length-is _
     (if2 .left) in
     let l : length rest < length (evBytes t pages) = omega (arith, length-evBytes t pages, c .if3 .taken) in
     put-short (evBytes t pages) rest _ (pages-fine _ (if1 .left) (if2 .left)) l
@@ -48,7 +48,7 @@ write16-requires c κs =
     let if2 = c .before .before .before .if2 in
     let ev-length = c .before .before .ev-length in
     let e : ev-length .result ≡ evLength (length pages) =
-    ev-length .ensures ∙ entry-is _ (if2 .left) in
+    ev-length .ensures ∙ ev-length-is _ (if2 .left) in
     omega (arith, c .before .if3 .left)
 
 write32-requires : tie.Need-write32-requires
@@ -60,7 +60,7 @@ write32-requires c κs =
     let write16 = c .before .before .before .write16 in
     let e : ev-length .result ≡ evLength
     (length pages) =
-    ev-length .ensures ∙ entry-is _
+    ev-length .ensures ∙ ev-length-is _
     (if2 .left) in
     omega (arith, if3 .left, write16 .kept .0)
 
@@ -74,7 +74,7 @@ write16-requires-2 c κs =
     let write32 = c .before .before .before .write32 in
     let e : ev-length .result ≡ evLength
     (length pages)
-    = ev-length .ensures ∙ entry-is _
+    = ev-length .ensures ∙ ev-length-is _
     (if2 .left) in
     omega (
       arith,
@@ -97,7 +97,7 @@ list-requires c κs =
     evLength
     (length
     pages)
-    = ev-length .ensures ∙ entry-is
+    = ev-length .ensures ∙ ev-length-is
     _ (if2 .left) in
     omega (
       arith,
@@ -128,7 +128,7 @@ returns-4 c =
     ev-length .result
     ≡ evLength (length (a .pages .now)) =
     ev-length .ensures
-    ∙ entry-is _
+    ∙ ev-length-is _
     (if2 .left)
     in
     let l : length (evBytes (a .t) (a .pages .now)) ≤ length (a .rest .now) = omega (

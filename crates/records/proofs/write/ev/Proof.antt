@@ -6,7 +6,7 @@ use borrow.Author.Needs.{needs}
 use borrow.Author.Tests.{eqb-false}
 use Rattle.records.specs.Bytes.{evBytes}
 use Rattle.records.specs.Writing.{evRefusal, pagesRefused}
-use Rattle.records.proofs.Lengths.{entry-is, length-evBytes}
+use Rattle.records.proofs.Lengths.{ev-length-is, length-evBytes}
 use Rattle.records.proofs.Writing.{refuses, room-by, room-fits, put-fits, put-writes, pages-none, pages-many, pages-fine}
 use Rattle.records.proofs.write.ev.Statement.{statement}
 use Rattle.records.proofs.write.ev.Tie as tie
@@ -48,7 +48,7 @@ returns-3 c =
     (rw (pages-fine (length pages) (if1 .left) (if2 .left))
     ((sym
     (room-by (evBytes t pages) out offset _ _
-    (ev-length .ensures ∙ (entry-is _ (if2 .left) ∙ sym (length-evBytes t pages)))
+    (ev-length .ensures ∙ (ev-length-is _ (if2 .left) ∙ sym (length-evBytes t pages)))
     (c .before .room .ensures)))))
 
 sub-ev : tie.Need-sub-ev
@@ -64,7 +64,7 @@ sub-ev c =
       arith,
       room-fits (evBytes t pages) out offset
           (sym (c .if3 .left) ∙ room-by (evBytes t pages) out offset _ _
-          (ev-length .ensures ∙ (entry-is _ (if2 .left) ∙ sym (length-evBytes t pages)))
+          (ev-length .ensures ∙ (ev-length-is _ (if2 .left) ∙ sym (length-evBytes t pages)))
           (c .before .room .ensures)),
     )
 
@@ -81,7 +81,7 @@ part-ev-start c =
       arith,
       room-fits (evBytes t pages) out offset
           (sym (c .if3 .left) ∙ room-by (evBytes t pages) out offset _ _
-          (ev-length .ensures ∙ (entry-is _ (if2 .left) ∙ sym (length-evBytes t pages)))
+          (ev-length .ensures ∙ (ev-length-is _ (if2 .left) ∙ sym (length-evBytes t pages)))
           (c .before .room .ensures)),
     )
 
@@ -100,7 +100,7 @@ add-t9 c =
     let ev = c .before .before .ev in
     let none = sym (if3 .left) ∙ room-by (evBytes t pages) out offset _ _
     (ev-length .ensures ∙
-    (entry-is _ (if2 .left) ∙ sym (length-evBytes t pages)))
+    (ev-length-is _ (if2 .left) ∙ sym (length-evBytes t pages)))
     (room .ensures) in
     omega (
       arith,
@@ -126,7 +126,7 @@ returns-4 c =
     let ev = c .before .before .ev in
     let none = sym (if3 .left) ∙ room-by (evBytes t pages) out offset _ _
     (ev-length .ensures ∙
-    (entry-is _ (if2 .left) ∙ sym (length-evBytes t pages)))
+    (ev-length-is _ (if2 .left) ∙ sym (length-evBytes t pages)))
     (room .ensures) in
     put-writes (evBytes t pages) out offset none (ev .result) (ev .last .0)
     (pagesRefused (length pages))
