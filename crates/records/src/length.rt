@@ -1,5 +1,5 @@
-// The records' lengths in bytes (document 01, "Files"). That of an EV is worked out from its number of pages (document 02, request 04).
-// It is worked out here only.
+// The records' lengths in bytes (document 01, "Files"). That of an EV depends on its number of pages; it is worked out here and nowhere
+// else (document 02, request 04).
 ghost use mathlib.Core.Path.{_≡_};
 ghost use Rattle.records.specs.Bytes.{evLengthAnswer};
 
