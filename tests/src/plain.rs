@@ -7,3 +7,4 @@ pub mod judge;
 pub mod layers;
 pub mod lru;
 pub mod min;
+pub mod preview;

@@ -24,6 +24,10 @@ const CACHE: u16 = b'c' as u16 + 256 * b'a' as u16;
 
 const LOAD: u16 = b'l' as u16 + 256 * b'o' as u16;
 
+const CACHE_PREVIEW: u16 = b'p' as u16 + 256 * b'c' as u16;
+
+const LOAD_PREVIEW: u16 = b'p' as u16 + 256 * b'l' as u16;
+
 const TABLE: u16 = b't' as u16 + 256 * b'a' as u16;
 
 const REVEALED: u16 = b'r' as u16 + 256 * b'e' as u16;
@@ -51,6 +55,8 @@ pub fn answer(
         RULES => traces::rules(n, first, second, third),
         CACHE => requests::lru(n, first, second),
         LOAD => requests::fifo(n, first, second),
+        CACHE_PREVIEW => requests::lru_preview(n, first, second),
+        LOAD_PREVIEW => requests::fifo_preview(n, first, second),
         TABLE => requests::table(n, first, second),
         REVEALED => requests::revealed(n, first, second),
         POSSIBLE => requests::possible(n, first, second, third),

@@ -16,6 +16,30 @@ pub(crate) fn fifo(n: Numbers, cache: &mut [u32], evicted: &mut [u32]) {
     answered(fifo::request(run(n), n.5, cache, evicted, n.6));
 }
 
+// A preview of an LRU request: the same. It prints the answer, then of the reply's record the requests, loads and evictions, and the count.
+pub(crate) fn lru_preview(n: Numbers, cache: &[u32], evicted: &mut [u32]) {
+    previewed(lru::preview(run(n), n.5, cache, evicted, n.6));
+}
+
+// A preview of an oldest load request: the same.
+pub(crate) fn fifo_preview(n: Numbers, cache: &[u32], evicted: &mut [u32]) {
+    previewed(fifo::preview(run(n), n.5, cache, evicted, n.6));
+}
+
+fn previewed(reply: Reply) {
+    let after = reply.run;
+    show::answer(
+        reply.refusal,
+        &[
+            reply.answer,
+            after.requests,
+            after.loads,
+            after.evictions,
+            reply.count,
+        ],
+    );
+}
+
 // Their record: k, a, requests, loads, evictions.
 fn run(n: Numbers) -> Run {
     Run {

@@ -13,9 +13,11 @@ use Rattle.paging.specs.Same.{samePages, sameEntries, shift}
 use Rattle.paging.specs.declared.Keeping.{Keeping}
 use Rattle.paging.specs.declared.Keeping.the-variants.{ByRequest, ByLoad}
 use Rattle.records.specs.Bytes.{rq, rr, traceBytes, singles, evLengthAnswer}
-use Rattle.queue.specs.Calls.{cacheOf, evictedOf, totalsOf}
+use Rattle.queue.specs.Calls.{replyOf, cacheOf, evictedOf, totalsOf}
 use Rattle.queue.specs.Serving.{emptyRun}
 use Rattle.queue.specs.Standing.{Call, State, afterCalls, emptyState}
+use Rattle.queue.specs.declared.Reply.{Reply}
+use Rattle.queue.specs.declared.Run.{Run}
 use Rattle.layers.specs.Calls.{requestRefusal, requestReply}
 use Rattle.layers.specs.Questions.{Verdict, refusedWith, possibleSet, countDiffers, brokenAt, verdict, layersIn}
 use Rattle.layers.specs.Traces.{traceTotals}
@@ -36,6 +38,8 @@ pub data Row : Type 0 where
   evicts : Keeping → (k a : ℕ) (pages : List ℕ) (page : ℕ) (bundle : List ℕ) → Row
   -- a request on an empty record, with a cache list and its count, leaves this cache list
   leaves : Keeping → (k a count : ℕ) (cache : List ℕ) (page : ℕ) (left : List ℕ) → Row
+  -- a request on a record, a count and lists answers these fields and leaves this evicted list; so does its preview
+  shows : Keeping → (run : Run) (count : ℕ) (cache evicted : List ℕ) (page : ℕ) (fields left : List ℕ) → Row
   -- bundles and loads of either over a trace
   totals : Keeping → (k a : ℕ) (pages : List ℕ) (bundles loads : ℕ) → Row
   -- bundles of MIN, LRU and the layers over a trace, and s
@@ -62,6 +66,10 @@ callsFor places (p ∷ ps) = record { page = p; evicted = replicate places 0 } �
 
 abbrev pub stateAfter : Keeping → (k a : ℕ) → List ℕ → State
 stateAfter keeping k a pages = afterCalls keeping (callsFor a pages) (emptyState k a (replicate k 0))
+
+-- k 3, a 2, three loads in so many requests
+abbrev pub threeLoaded : (requests : ℕ) → Run
+threeLoaded requests = record { k = 3; a = 2; requests = requests; loads = 3; evictions = 0 }
 
 abbrev pub layersCalls : List ℕ → List LayersCall
 layersCalls [] = []
@@ -104,7 +112,12 @@ named possibleSet = 0
 named countDiffers = 0
 named (brokenAt layer) = layer
 
--- the fields of a reply, the record's after the refusal
+-- the fields of a reply of LRU or oldest load, the record's after the refusal
+abbrev pub queueFields : Reply → List ℕ
+queueFields r =
+    r .refusal ∷ r .run .k ∷ r .run .a ∷ r .run .requests ∷ r .run .loads ∷ r .run .evictions ∷ r .count ∷ r .answer ∷ []
+
+-- and of one of the layers
 abbrev pub fieldsOf : LayersReply → List ℕ
 fieldsOf r =
     r .refusal ∷ r .run .k ∷ r .run .a ∷ r .run .requests ∷ r .run .evictions ∷ r .run .s
@@ -127,6 +140,8 @@ right (minEvicts k a pages entries) = sameEntries (minEntries k a pages) entries
 right (evicts keeping k a pages page bundle) =
     let S = stateAfter keeping k a pages in samePages (evictedOf (S .run) (S .count) (S .cache) (replicate a 0) page) bundle
 right (leaves keeping k a count cache page left) = samePages (cacheOf keeping (emptyRun k a) count cache (replicate a 0) page) left
+right (shows keeping run count cache evicted page fields left) =
+    samePages (queueFields (replyOf keeping run count cache evicted page)) fields and samePages (evictedOf run count cache evicted page) left
 right (totals keeping k a pages bundles loads) =
     let T = totalsOf keeping k a pages in eqb (T .bundles) bundles and eqb (T .loads) loads
 right (counted k a pages byMin byLru byLayers s) =
@@ -234,6 +249,19 @@ requestedCases =
     ∷ measures 1 12
     ∷ measures 256 1032
     ∷ measures 257 0
+    -- 05. the record and count are those of serving a copy, and only a bundle changes the evicted list: a hit on the oldest page, a load of a page that stands
+    -- past the count, a bundle
+    ∷ shows ByRequest (threeLoaded 3) 3 (1 ∷ 2 ∷ 3 ∷ []) (9 ∷ 9 ∷ 9 ∷ []) 1 (0 ∷ 3 ∷ 2 ∷ 4 ∷ 3 ∷ 0 ∷ 3 ∷ 0 ∷ []) (9 ∷ 9 ∷ 9 ∷ [])
+    ∷ shows ByLoad (threeLoaded 3) 3 (1 ∷ 2 ∷ 3 ∷ []) (9 ∷ 9 ∷ 9 ∷ []) 1 (0 ∷ 3 ∷ 2 ∷ 4 ∷ 3 ∷ 0 ∷ 3 ∷ 0 ∷ []) (9 ∷ 9 ∷ 9 ∷ [])
+    ∷ shows ByRequest (threeLoaded 3) 2 (1 ∷ 2 ∷ 3 ∷ []) (9 ∷ 9 ∷ []) 3 (0 ∷ 3 ∷ 2 ∷ 4 ∷ 4 ∷ 0 ∷ 3 ∷ 1 ∷ []) (9 ∷ 9 ∷ [])
+    ∷ shows ByLoad (threeLoaded 3) 2 (1 ∷ 2 ∷ 3 ∷ []) (9 ∷ 9 ∷ []) 3 (0 ∷ 3 ∷ 2 ∷ 4 ∷ 4 ∷ 0 ∷ 3 ∷ 1 ∷ []) (9 ∷ 9 ∷ [])
+    ∷ shows ByRequest (threeLoaded 3) 3 (1 ∷ 2 ∷ 3 ∷ []) (9 ∷ 9 ∷ 9 ∷ []) 4 (0 ∷ 3 ∷ 2 ∷ 4 ∷ 4 ∷ 1 ∷ 2 ∷ 2 ∷ []) (1 ∷ 2 ∷ 9 ∷ [])
+    ∷ shows ByLoad (threeLoaded 3) 3 (1 ∷ 2 ∷ 3 ∷ []) (9 ∷ 9 ∷ 9 ∷ []) 4 (0 ∷ 3 ∷ 2 ∷ 4 ∷ 4 ∷ 1 ∷ 2 ∷ 2 ∷ []) (1 ∷ 2 ∷ 9 ∷ [])
+    -- a hit with an evicted list of one place is 8; a bundle with a full counter is 12
+    ∷ shows ByRequest (threeLoaded 3) 3 (1 ∷ 2 ∷ 3 ∷ []) (9 ∷ []) 1 (8 ∷ replicate 7 0) (9 ∷ [])
+    ∷ shows ByLoad (threeLoaded 3) 3 (1 ∷ 2 ∷ 3 ∷ []) (9 ∷ []) 1 (8 ∷ replicate 7 0) (9 ∷ [])
+    ∷ shows ByRequest (threeLoaded 4294967295) 3 (1 ∷ 2 ∷ 3 ∷ []) (9 ∷ 9 ∷ []) 4 (12 ∷ replicate 7 0) (9 ∷ 9 ∷ [])
+    ∷ shows ByLoad (threeLoaded 4294967295) 3 (1 ∷ 2 ∷ 3 ∷ []) (9 ∷ 9 ∷ []) 4 (12 ∷ replicate 7 0) (9 ∷ 9 ∷ [])
     ∷ []
 
 abbrev pub allRight : List Row → Bool

@@ -5,6 +5,7 @@
 //   sizes         k and a
 //   lru_calls     least recent use, a request and a trace
 //   fifo_calls    oldest load first, the same
+//   preview_calls what a request of either would answer and evict
 //   queue_fields  the fields of their answers
 //   min_calls     farthest next use, its counts and its schedule
 //   layers_calls  the layers, a request, the questions and a trace
@@ -15,6 +16,7 @@ mod fifo_calls;
 mod layers_calls;
 mod lru_calls;
 mod min_calls;
+mod preview_calls;
 mod queue_fields;
 mod reader_calls;
 mod sizes;

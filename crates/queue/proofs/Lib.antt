@@ -3,3 +3,4 @@ pub mod Served
 pub mod Refusals
 pub mod Steps
 pub mod Bundles
+pub mod Previews

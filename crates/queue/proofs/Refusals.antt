@@ -13,13 +13,12 @@ use Rattle.lists.proofs.Choice.{tests, and-l, and-r, and-false-l, and-false-r, 
 use Rattle.paging.specs.Refusals.{refuse, sizesRefusal, traceRefusal}
 use Rattle.paging.proofs.Refusals.{zero-pass, sizes-pass, sizes-fall, sizes-rest, trace-right}
 use Rattle.paging.specs.declared.Keeping.{Keeping}
-use Rattle.queue.specs.Calls.{wellFormed, runRefusal, requestRefusal, replyOf, cacheOf, evictedOf, totalsOf}
-use Rattle.queue.specs.Serving.{emptyRun}
+use Rattle.queue.specs.Calls.{wellFormed, runRefusal, requestRefusal, refused, Answered, Previewed, totalsOf}
 use Rattle.queue.specs.Standing.{runOver}
 use Rattle.queue.specs.declared.Reply.{Reply}
 use Rattle.queue.specs.declared.Run.{Run}
 use Rattle.queue.specs.inner.Ready.{RequestReady, TraceReady}
-use Rattle.queue.proofs.Served.{Served}
+use Rattle.queue.proofs.Served.{Served, Told}
 
 module _ (run : Run) (count : ℕ) (cache evicted : List ℕ) (ill : Bool) where
   -- no refusal
@@ -119,21 +118,28 @@ module _ (run : Run) (count : ℕ) (cache : List ℕ) where
 
 -- The answer and the lists
 
--- what the call promises
-abbrev pub Answered : Keeping → (run : Run) (count : ℕ) (cache evicted : List ℕ) (page : ℕ) → Reply → (y v : List ℕ) → Type 0
-Answered keeping run count cache evicted page reply y v =
-    (reply ≡ replyOf keeping run count cache evicted page)
-    × ((y ≡ cacheOf keeping run count cache evicted page) × (v ≡ evictedOf run count cache evicted page))
-
 module _ (keeping : Keeping) (run : Run) (count : ℕ) (cache evicted : List ℕ) (page : ℕ) where
-  pub answer-refused : (n : ℕ) (r : Run) → n ≡ requestRefusal run count cache evicted → (n ≡ 0 → ⊥) → r ≡ emptyRun 0 0
-      → Answered keeping run count cache evicted page (record { refusal = n; run = r; count = 0; answer = 0 }) cache evicted
-  answer-refused n r e z q =
-      (rw (← e, ne-eqb n 0 z, q) refl, (rw (← e, ne-eqb n 0 z) refl, rw (← e, ne-eqb n 0 z) refl))
+  pub answer-refused : (n : ℕ) (reply : Reply) → n ≡ requestRefusal run count cache evicted → (n ≡ 0 → ⊥) → reply ≡ refused n
+      → Answered keeping run count cache evicted page reply cache evicted
+  answer-refused n reply e z q =
+      (rw (← e, ne-eqb n 0 z) q, (rw (← e, ne-eqb n 0 z) refl, rw (← e, ne-eqb n 0 z) refl))
 
   pub answer-accepted : (reply : Reply) (y v : List ℕ) → requestRefusal run count cache evicted ≡ 0
       → Served keeping run count cache evicted page reply y v → Answered keeping run count cache evicted page reply y v
   answer-accepted reply y v e s = rw e s
+
+-- a preview
+
+module _ (run : Run) (count : ℕ) (cache evicted : List ℕ) (page : ℕ) where
+  pub preview-refused : (n : ℕ) (reply : Reply) → n ≡ requestRefusal run count cache evicted → (n ≡ 0 → ⊥) → reply ≡ refused n
+      → Previewed run count cache evicted page reply evicted
+  preview-refused n reply e z q keeping =
+      let s = answer-refused keeping run count cache evicted page n reply e z q in
+      (s .0, s .1 .1)
+
+  pub preview-accepted : (reply : Reply) (v : List ℕ) → requestRefusal run count cache evicted ≡ 0
+      → Told run count cache evicted page reply v → Previewed run count cache evicted page reply v
+  preview-accepted reply v e t keeping = rw e (t keeping)
 
 -- A whole trace
 

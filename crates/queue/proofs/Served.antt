@@ -76,7 +76,12 @@ Served keeping run count cache evicted page reply y v =
     (reply ≡ replyServed keeping run count cache page)
     × ((y ≡ cacheServed keeping run count cache page) × (v ≡ evictedServed run count cache evicted page))
 
-module _ (keeping : Keeping) (run : Run) (count : ℕ) (cache evicted : List ℕ) (page : ℕ) (ready : RequestReady run count cache evicted) where
+-- and what a preview tells of it, for either way of keeping the list
+abbrev pub Told : (run : Run) (count : ℕ) (cache evicted : List ℕ) (page : ℕ) → Reply → (v : List ℕ) → Type 0
+Told run count cache evicted page reply v =
+    (keeping : Keeping) → (reply ≡ replyServed keeping run count cache page) × (v ≡ evictedServed run count cache evicted page)
+
+module _ (run : Run) (count : ℕ) (cache evicted : List ℕ) (page : ℕ) (ready : RequestReady run count cache evicted) where
   length-held : length (take count cache) ≡ count
   length-held = length-take-le count cache (omega arith)
 
@@ -87,21 +92,21 @@ module _ (keeping : Keeping) (run : Run) (count : ℕ) (cache evicted : List ℕ
   hit-moves ByLoad at m e = sym (moved-none count (take count cache) (omega (arith, length-held)))
 
   -- what is told and written for what was found is what the definitions say
-  served-by : (found : Found) → found ≡ foundIn (run .k) page (take count cache)
+  served-by : (keeping : Keeping) (found : Found) → found ≡ foundIn (run .k) page (take count cache)
       → Served keeping run count cache evicted page (replyFor found run count) (cacheFor keeping found count (run .k) (run .a) page cache) (evictedFor found (run .a) cache evicted)
-  served-by (Held at) f =
+  served-by keeping (Held at) f =
       let held = take count cache in
       let t = held-told (run .k) page held at (sym f) in
       let m : mem page held ≡ true = t .0 in
       let w : movedToEnd (movedFrom keeping at count) held ≡ afterHit keeping page held = hit-moves keeping at m (t .1) in
       let n : length (afterHit keeping page held) ≡ count = sym (ap length w) ∙ length-moved (movedFrom keeping at count) held ∙ length-held in
       (rw (m, n) refl, (rw (m, w) refl, rw m refl))
-  served-by Room f =
+  served-by keeping Room f =
       let held = take count cache in
       let t = room-told (run .k) page held (sym f) in
       let n : length (held ++ (page ∷ [])) ≡ count + 1 = simp (length-append, length-held) refl in
       (rw (t .0, lt-ltb _ _ (t .1), n) refl, (rw (t .0, lt-ltb _ _ (t .1)) refl, rw (t .0, lt-ltb _ _ (t .1)) refl))
-  served-by Full f =
+  served-by keeping Full f =
       let held = take count cache in
       let t = full-told (run .k) page held (sym f) in
       let n : length (drop (run .a) held ++ (page ∷ [])) ≡ count - run .a + 1 = simp (length-append, length-drop, length-held) refl in
@@ -114,12 +119,19 @@ module _ (keeping : Keeping) (run : Run) (count : ℕ) (cache evicted : List ℕ
       )
 
   -- the steps one after the other
-  pub acted : (found : Found) (reply : Reply) (y v : List ℕ) → found ≡ foundIn (run .k) page (take count cache) → reply ≡ replyFor found run count
+  pub acted : (keeping : Keeping) (found : Found) (reply : Reply) (y v : List ℕ) → found ≡ foundIn (run .k) page (take count cache) → reply ≡ replyFor found run count
       → y ≡ cacheFor keeping found count (run .k) (run .a) page cache → v ≡ evictedFor found (run .a) cache evicted
       → Served keeping run count cache evicted page reply y v
-  acted found reply y v f r c e =
-      let s = served-by found f in
+  acted keeping found reply y v f r c e =
+      let s = served-by keeping found f in
       (r ∙ s .0, (c ∙ s .1 .0, e ∙ s .1 .1))
+
+  -- without the step that puts the page into the cache list: what is told and the bundle do not hang on how that list is kept
+  pub told : (found : Found) (reply : Reply) (v : List ℕ) → found ≡ foundIn (run .k) page (take count cache) → reply ≡ replyFor found run count
+      → v ≡ evictedFor found (run .a) cache evicted → Told run count cache evicted page reply v
+  told found reply v f r e keeping =
+      let s = served-by keeping found f in
+      (r ∙ s .0, e ∙ s .1 .1)
 
   -- and each may be made
   pub can-settle : (found : Found) → found ≡ foundIn (run .k) page (take count cache) → SettleReady found count (run .k) (run .a) cache

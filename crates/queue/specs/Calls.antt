@@ -3,6 +3,7 @@
 use Prim.Native.Nat.{ℕ}
 use mathlib.Core.Bool.{Bool, false, not}
 use mathlib.Core.List.{List}
+use mathlib.Core.Path.{_≡_}
 use lib.Dec.{eqb, leb, ltb}
 use lib.ListN.{length, take}
 use Rattle.lists.specs.Choice.{pick, _and_, _or_}
@@ -55,6 +56,22 @@ cacheOf keeping run count cache evicted page =
 abbrev pub evictedOf : Run → (count : ℕ) → (cache evicted : List ℕ) → (page : ℕ) → List ℕ
 evictedOf run count cache evicted page =
     pick (eqb (requestRefusal run count cache evicted) 0) (evictedServed run count cache evicted page) evicted
+
+-- so told of a request: its answer, and what it left in the two lists
+abbrev pub Answered : Keeping → Run → (count : ℕ) → (cache evicted : List ℕ) → (page : ℕ) → Reply → (cacheLeft evictedLeft : List ℕ) → Type 0
+Answered keeping run count cache evicted page reply cacheLeft evictedLeft =
+    (reply ≡ replyOf keeping run count cache evicted page)
+    × ((cacheLeft ≡ cacheOf keeping run count cache evicted page) × (evictedLeft ≡ evictedOf run count cache evicted page))
+
+-- and of a preview (document 02, request 05): "the answer and the evicted list are those of serving the request on a copy of the state, refusals
+-- included". The record is the caller's own, and the cache list is only looked at
+abbrev pub PreviewedBy : Keeping → Run → (count : ℕ) → (cache evicted : List ℕ) → (page : ℕ) → Reply → (evictedLeft : List ℕ) → Type 0
+PreviewedBy keeping run count cache evicted page reply evictedLeft =
+    (reply ≡ replyOf keeping run count cache evicted page) × (evictedLeft ≡ evictedOf run count cache evicted page)
+
+-- at once for either way of keeping the list
+abbrev pub Previewed : Run → (count : ℕ) → (cache evicted : List ℕ) → (page : ℕ) → Reply → (evictedLeft : List ℕ) → Type 0
+Previewed run count cache evicted page reply evictedLeft = (keeping : Keeping) → PreviewedBy keeping run count cache evicted page reply evictedLeft
 
 -- Over a whole trace, from the empty buffer
 

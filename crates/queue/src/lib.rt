@@ -4,7 +4,7 @@
 ghost use Prim.Native.Nat.{_≤_};
 ghost use mathlib.Core.Path.{_≡_};
 ghost use lib.ListN.{length};
-ghost use Rattle.queue.specs.Calls.{wellFormed, runRefusal, replyOf, cacheOf, evictedOf, totalsOf};
+ghost use Rattle.queue.specs.Calls.{wellFormed, runRefusal, refused, replyOf, cacheOf, evictedOf, Previewed, totalsOf};
 ghost use Rattle.queue.specs.Serving.{emptyRun};
 use paging::Keeping;
 use paging::Sizes;
@@ -65,14 +65,37 @@ pub fn request(
 {
     let number = refusal(run, count, cache, evicted, false);
     if number != 0 {
-        return Reply {
-            refusal: number,
-            run: Run::empty(0, 0),
-            count: 0,
-            answer: 0,
-        };
+        return refused(number);
     }
     serving::step(keeping, run, count, cache, evicted, page)
+}
+
+// What one request would answer and evict (document 02, request 05): the reply and the evicted list are those of `request` on a copy of the state,
+// for either way of keeping the list. Nothing is served, and a preview counts as no request: the reply has the copy's record and count, and whoever
+// hands these on has served by mistake.
+pub fn preview(run: Run, count: u32, cache: &[u32], evicted: &mut [u32], page: u32) -> Reply
+    ensures { λ r. ⌜ Previewed run count (now (cache .entry)) (now (evicted .entry)) page r (now (evicted .exit)) ⌝ }
+{
+    let number = refusal(run, count, cache, evicted, false);
+    if number != 0 {
+        return refused(number);
+    }
+    let k = run.k as usize;
+    let a = run.a as usize;
+    let found = serving::decide(k, &cache[..count as usize], page);
+    serving::evict(found, a, cache, evicted);
+    serving::answered(found, run, count)
+}
+
+fn refused(number: u32) -> Reply
+    ensures { λ r. ⌜ r ≡ refused number ⌝ }
+{
+    Reply {
+        refusal: number,
+        run: Run::empty(0, 0),
+        count: 0,
+        answer: 0,
+    }
 }
 
 // The number of the first refusal that holds, in document 01's order, or 0. `ill` is a further reason for 9.

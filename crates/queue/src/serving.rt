@@ -108,7 +108,7 @@ pub(crate) fn decide(k: usize, held: &[u32], page: u32) -> Found
 }
 
 // What the request answers.
-fn answered(found: Found, run: Run, count: u32) -> Reply
+pub(crate) fn answered(found: Found, run: Run, count: u32) -> Reply
     requires { ⌜ AnswerReady found run count ⌝ }
     ensures { λ r. ⌜ r ≡ replyFor found run count ⌝ }
 {
@@ -135,7 +135,7 @@ fn answered(found: Found, run: Run, count: u32) -> Reply
 }
 
 // The bundle in the evicted list, where there is one.
-fn evict(found: Found, a: usize, cache: &[u32], evicted: &mut [u32])
+pub(crate) fn evict(found: Found, a: usize, cache: &[u32], evicted: &mut [u32])
     requires { ⌜ (a ≤ length (now cache)) × (a ≤ length (now evicted)) ⌝ }
     ensures { λ _. ⌜ now (evicted .exit) ≡ evictedFor found a (now (cache .entry)) (now (evicted .entry)) ⌝ }
 {

@@ -1,8 +1,8 @@
 //! Times the proved code beside plain versions on the same input, in one run, and prints a table.
 //! Run it by tests/speed. Usage: speed PROGRAM PLAIN_PROGRAM [PART ..]
 //!
-//! PROGRAM is `bench`, PLAIN_PROGRAM plain_bench; a PART is one of bench, next, min, lru, fifo, layers, judge,
-//! and without any all are timed. Each time is the least of several repeats.
+//! PROGRAM is `bench`, PLAIN_PROGRAM plain_bench; a PART is one of bench, next, min, lru, fifo, preview, layers,
+//! judge, and without any all are timed. Each time is the least of several repeats.
 
 use bench_tests::calls::queue::Exported;
 use bench_tests::exported::exports;
@@ -142,6 +142,8 @@ type PlainRun = fn(u32, u32, &[u32]) -> (u32, u32);
 trait Timed: Exported {
     const JOB: &'static str;
     const REQUEST_JOB: &'static str;
+    const PREVIEW_JOB: &'static str;
+    const BESIDE_JOB: &'static str;
     const PLAIN_REQUEST: PlainRequest;
     const PLAIN_RUN: PlainRun;
     /// Which of the pages 0 to 255, loaded in this order, a call asks for to hit the list's first one each time.
@@ -151,6 +153,8 @@ trait Timed: Exported {
 impl Timed for Lru {
     const JOB: &'static str = "LRU";
     const REQUEST_JOB: &'static str = "one LRU request";
+    const PREVIEW_JOB: &'static str = "one LRU preview";
+    const BESIDE_JOB: &'static str = "one LRU preview beside the request";
     const PLAIN_REQUEST: PlainRequest = plain::lru::request;
     const PLAIN_RUN: PlainRun = plain::lru::run;
     const FIRST: fn(usize) -> usize = |call| call % 256;
@@ -159,6 +163,8 @@ impl Timed for Lru {
 impl Timed for Fifo {
     const JOB: &'static str = "fifo";
     const REQUEST_JOB: &'static str = "one fifo request";
+    const PREVIEW_JOB: &'static str = "one fifo preview";
+    const BESIDE_JOB: &'static str = "one fifo preview beside the request";
     const PLAIN_REQUEST: PlainRequest = plain::fifo::request;
     const PLAIN_RUN: PlainRun = plain::fifo::run;
     const FIRST: fn(usize) -> usize = |_| 0;
@@ -174,17 +180,26 @@ fn time_over_traces<P: Timed>(table: &mut Table) {
     }
 }
 
+/// Single calls on a full buffer.
+const CALLS: usize = 20_000;
+
+fn full_record(a: u32) -> Record {
+    Record { k: K, a, requests: 1_000, loads: 500, evictions: 200 }
+}
+
+/// The answers to requests for some pages, from a full buffer on, added up.
+fn serve_all<P: Timed>(start: &[u32], pages: &[u32]) -> u64 {
+    let record = full_record(1);
+    let (mut cache, mut evicted) = (start.to_vec(), [0; 1]);
+    let mut serve = |page| field(7, |out| P::REQUEST.1(&record, K, &mut cache, &mut evicted, page, out));
+    pages.iter().map(|&page| serve(page)).sum()
+}
+
 /// Single requests that leave a full buffer full: `page` says which page each call asks for.
 fn time_requests<P: Timed>(table: &mut Table, what: &str, page: fn(usize) -> usize, name: fn(usize) -> u32) {
-    const CALLS: usize = 20_000;
-    let record = Record { k: K, a: 1, requests: 1_000, loads: 500, evictions: 200 };
     let start: Vec<u32> = (0..K as usize).map(name).collect();
     let pages: Vec<u32> = (0..CALLS).map(|call| name(page(call))).collect();
-    let ours = || {
-        let (mut cache, mut evicted) = (start.clone(), [0; 1]);
-        let mut serve = |page| field(7, |out| P::REQUEST.1(&record, K, &mut cache, &mut evicted, page, out));
-        pages.iter().map(|&page| serve(page)).sum::<u64>()
-    };
+    let ours = || serve_all::<P>(&start, &pages);
     let plain = || {
         let (mut cache, mut evicted, mut count) = (start.clone(), [0; 1], K as usize);
         let mut serve = |page| P::PLAIN_REQUEST(K as usize, 1, &mut count, &mut cache, &mut evicted, page);
@@ -193,14 +208,67 @@ fn time_requests<P: Timed>(table: &mut Table, what: &str, page: fn(usize) -> usi
     table.row(P::REQUEST_JOB, what.to_string(), CALLS, &mut { ours }, &mut { plain });
 }
 
+/// Which of the pages 0 to 256 a call asks for to find it absent each time, with a 1.
+const NEW: fn(usize) -> usize = |call| (call + 256) % 257;
+
 fn time_policy<P: Timed>(table: &mut Table) {
-    const NEW: fn(usize) -> usize = |call| (call + 256) % 257;
     time_over_traces::<P>(table);
     time_requests::<P>(table, "oldest page", P::FIRST, scattered);
     time_requests::<P>(table, "newest page", |_| 255, scattered);
     time_requests::<P>(table, "new page", NEW, scattered);
     time_requests::<P>(table, "oldest page, equal low halves", P::FIRST, low_half_zero);
     time_requests::<P>(table, "new page, equal low halves", NEW, low_half_zero);
+}
+
+/// The answers to previews of one page on a full buffer, added up. `asked` is the page's place; at 256 it is a new one.
+fn preview_all<P: Timed>(a: u32, start: &[u32], page: u32) -> u64 {
+    let record = full_record(a);
+    let mut evicted = vec![0; a as usize];
+    let mut ask = |page| field(7, |out| P::PREVIEW.1(&record, K, start, &mut evicted, page, out));
+    (0..CALLS).map(|_| ask(opaque(page))).sum()
+}
+
+/// Previews beside the plain ones, a few pages in a bundle and many.
+fn time_previews<P: Timed>(table: &mut Table, what: &str, a: u32, place: usize, name: fn(usize) -> u32) {
+    let start: Vec<u32> = (0..K as usize).map(name).collect();
+    let ours = || preview_all::<P>(a, &start, name(place));
+    let plain = || {
+        let mut evicted = vec![0; a as usize];
+        let mut ask = |page| {
+            plain::preview::preview(K as usize, a as usize, K as usize, opaque(&start), &mut evicted, page)
+        };
+        (0..CALLS).map(|_| u64::from(ask(opaque(name(place))))).sum::<u64>()
+    };
+    table.row(P::PREVIEW_JOB, format!("a {}, {}", a, what), CALLS, &mut { ours }, &mut { plain });
+}
+
+/// Previews beside requests that find the same.
+fn time_beside<P: Timed>(
+    table: &mut Table,
+    what: &str,
+    place: usize,
+    page: fn(usize) -> usize,
+    name: fn(usize) -> u32,
+) {
+    let start: Vec<u32> = (0..K as usize).map(name).collect();
+    let pages: Vec<u32> = (0..CALLS).map(|call| name(page(call))).collect();
+    let ours = || preview_all::<P>(1, &start, name(place));
+    let requests = || serve_all::<P>(&start, &pages);
+    table.row(P::BESIDE_JOB, what.to_string(), CALLS, &mut { ours }, &mut { requests });
+}
+
+fn time_policy_previews<P: Timed>(table: &mut Table) {
+    const EQUAL: &str = "new page, equal low halves";
+    for a in [1, 64, 256] {
+        time_previews::<P>(table, "oldest page", a, 0, scattered);
+        time_previews::<P>(table, "newest page", a, 255, scattered);
+        time_previews::<P>(table, "new page", a, 256, scattered);
+        time_previews::<P>(table, EQUAL, a, 256, low_half_zero);
+    }
+    time_beside::<P>(table, "oldest page", 0, P::FIRST, scattered);
+    time_beside::<P>(table, "newest page", 255, |_| 255, scattered);
+    time_beside::<P>(table, "new page", 256, NEW, scattered);
+    time_beside::<P>(table, EQUAL, 256, NEW, low_half_zero);
 }
 
 fn time_layers(table: &mut Table) {
@@ -359,6 +427,10 @@ fn main() {
     }
     if wanted("fifo") {
         time_policy::<Fifo>(&mut table);
+    }
+    if wanted("preview") {
+        time_policy_previews::<Lru>(&mut table);
+        time_policy_previews::<Fifo>(&mut table);
     }
     if wanted("layers") {
         time_layers(&mut table);

@@ -56,6 +56,24 @@ fn one_request<P: Policy>(count: u32, cache: [u32; 4], page: u32) -> (u32, u32, 
     (served.answer, served.count, cache, evicted)
 }
 
+/// A preview of a request on a record of k 3, a 2 and so many requests: requests, loads, evictions, count and
+/// answer of the copy, or the refusal; the evicted list.
+fn one_preview<P: Policy>(
+    requests: u32,
+    count: u32,
+    page: u32,
+    room: usize,
+) -> (Result<[u32; 5], u32>, Vec<u32>) {
+    let record = Record { k: 3, a: 2, requests, loads: 3, evictions: 0 };
+    let mut evicted = vec![7; room];
+    let told = queue::preview::<P>(&record, count, &[5, 6, 8, 9], &mut evicted, page);
+    let fields = told.map(|copy| {
+        let Record { requests, loads, evictions, .. } = copy.record;
+        [requests, loads, evictions, copy.count, copy.answer]
+    });
+    (fields, evicted)
+}
+
 /// The answers to a list of layer requests on a table of some places, and the record after the last.
 fn layer_requests(k: u32, a: u32, places: usize, trace: &[u32]) -> Result<(Vec<u32>, layers::Record), u32> {
     let mut record = layers::Record::empty(k, a);
@@ -163,6 +181,16 @@ fn oldest_load(cases: &mut Cases) {
 }
 
 /// Which layer rule applied, and the counts of the three.
+fn previews<P: Policy>(cases: &mut Cases, policy: &str) {
+    let name = |what: &str| format!("preview, {}, {}", policy, what);
+    cases.same(&name("a hit"), one_preview::<P>(3, 3, 5, 2), (Ok([4, 3, 0, 3, 0]), vec![7, 7]));
+    cases.same(&name("a load"), one_preview::<P>(3, 2, 8, 3), (Ok([4, 4, 0, 3, 1]), vec![7, 7, 7]));
+    cases.same(&name("a bundle"), one_preview::<P>(3, 3, 9, 3), (Ok([4, 4, 1, 2, 2]), vec![5, 6, 7]));
+    cases.same(&name("a short list"), one_preview::<P>(3, 3, 5, 1), (Err(8), vec![7]));
+    cases.same(&name("fewer requests than loads"), one_preview::<P>(2, 3, 9, 2), (Err(9), vec![7, 7]));
+    cases.same(&name("a full counter"), one_preview::<P>(u32::MAX, 3, 9, 2), (Err(12), vec![7, 7]));
+}
+
 fn layer_rules(cases: &mut Cases) {
     let served = |k, a, trace: &[u32]| {
         let (answers, record) = layer_requests(k, a, 9, trace).expect("the requests are sound");
@@ -280,6 +308,8 @@ fn main() {
     places::<Lru>(&mut cases, "LRU");
     places::<Fifo>(&mut cases, "oldest load");
     oldest_load(&mut cases);
+    previews::<Lru>(&mut cases, "LRU");
+    previews::<Fifo>(&mut cases, "oldest load");
     layer_rules(&mut cases);
     runs(&mut cases);
     run_records(&mut cases);

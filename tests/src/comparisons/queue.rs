@@ -1,15 +1,45 @@
-//! Requests to least recent use and to oldest load first.
+//! Requests to least recent use and to oldest load first, and previews of them.
 
 use super::{all_met, break_state, due, SOUND};
-use crate::calls::queue::Exported;
-use crate::calls::{Lent, Reached};
+use crate::calls::queue::{Exported, Preview, Request};
+use crate::calls::{Answer, Lent, Reached};
 use crate::model::queue::Record;
+use crate::report::differs;
 use crate::rng::Rng;
 use crate::states::queue::{all_small, drawn, State, FAULTS};
 use crate::states::{border_sizes, end_page};
 use crate::traces::{any, sizes};
 
-/// Lists of requests, from the empty record and any cache list on.
+/// A request, and its preview in the same state: both give the answer that this gives. The evicted list is
+/// left alike too.
+fn both<P: Exported>(reached: &mut Reached, request: &Request<P>) -> (Request<P>, Answer) {
+    let (Preview(asked), told) = reached.compare(&Preview(request.clone()));
+    let (served, answer) = reached.compare(request);
+    if told != answer || asked.evicted != served.evicted {
+        let input = [("call", format!("{:?}", request))];
+        differs(P::PREVIEW.0, &input, &(&answer, &served.evicted), &(&told, &asked.evicted));
+    }
+    (served, answer)
+}
+
+/// Previews of some pages, then of the request's, then the request, all lent one evicted list: the request
+/// answers what the last preview told, and leaves that list as it is.
+fn asked_first<P: Exported>(reached: &mut Reached, request: &Request<P>, others: &[u32]) {
+    let mut asked = Preview(request.clone());
+    for &page in others {
+        asked.0.page = page;
+        asked = reached.compare(&asked).0;
+    }
+    asked.0.page = request.page;
+    let (Preview(asked), told) = reached.compare(&asked);
+    let (served, answer) = reached.compare(&asked);
+    if told != answer || asked.evicted != served.evicted {
+        let input = [("call", format!("{:?}", asked))];
+        differs(P::REQUEST.0, &input, &(&told, &asked.evicted), &(&answer, &served.evicted));
+    }
+}
+
+/// Lists of requests, from the empty record and any cache list on, each previewed before it is made.
 fn walks<P: Exported>(reached: &mut Reached, rng: &mut Rng) {
     for _ in 0..300 {
         let (k, a) = sizes(rng);
@@ -17,7 +47,8 @@ fn walks<P: Exported>(reached: &mut Reached, rng: &mut Rng) {
         for page in any(k, a, 200, rng) {
             call.page = page;
             call.evicted = Lent::new(&vec![3; a as usize + rng.below(3) - usize::from(rng.once_in(50))]);
-            let (mut left, answer) = reached.compare(&call);
+            asked_first(reached, &call, &[page ^ 1, page.wrapping_add(1)]);
+            let (mut left, answer) = both(reached, &call);
             left.go_on(&answer);
             call = left;
         }
@@ -29,9 +60,9 @@ fn faults<P: Exported>(reached: &mut Reached, rng: &mut Rng) {
     for (k, a) in SOUND {
         for requests in [0, 1, 2, k as usize, 2 * k as usize, 2 * k as usize + 3] {
             let sound = State::reached::<P>(k, a, requests, rng);
-            reached.compare(&sound.request::<P>());
+            both(reached, &sound.request::<P>());
             break_state(&sound, &FAULTS, &mut alone, |state, expected| {
-                let (_, answer) = reached.compare(&state.request::<P>());
+                let (_, answer) = both(reached, &state.request::<P>());
                 due(P::REQUEST.0, state, expected, answer.refusal);
             });
         }
@@ -50,7 +81,7 @@ fn borders<P: Exported>(reached: &mut Reached) {
                     let cache = (0..k.min(258) as usize).map(end_page).collect();
                     let evicted = vec![7; a.min(258) as usize];
                     let record = Record { k, a, requests, loads, evictions };
-                    reached.compare(&State { record, count, cache, evicted, page }.request::<P>());
+                    both(reached, &State { record, count, cache, evicted, page }.request::<P>());
                 }
             }
         }
@@ -62,9 +93,9 @@ pub fn all<P: Exported>(reached: &mut Reached, rng: &mut Rng) {
     faults::<P>(reached, rng);
     borders::<P>(reached);
     all_small(|state| {
-        reached.compare(&state.request::<P>());
+        both(reached, &state.request::<P>());
     });
     for _ in 0..60_000 {
-        reached.compare(&drawn(rng).request::<P>());
+        both(reached, &drawn(rng).request::<P>());
     }
 }

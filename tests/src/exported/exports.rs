@@ -171,12 +171,15 @@ pub fn sizes_refusal(k: u32, a: u32) -> u32 {
 /// answer.
 pub type QueueRequest = fn(&Record, u32, &mut [u32], &mut [u32], u32, &mut [u64]);
 
+/// A preview of such a request: the same. The cache list is only looked at.
+pub type QueuePreview = fn(&Record, u32, &[u32], &mut [u32], u32, &mut [u64]);
+
 /// A policy over a whole trace: refusal, bundles, loads.
 pub type OverTrace = fn(u32, u32, &[u32], &mut [u64]);
 
 /// The calls of such a policy, declared and made safe.
 macro_rules! queue_calls {
-    ($request:ident, $over_trace:ident) => {
+    ($request:ident, $preview:ident, $over_trace:ident) => {
         pub fn $request(
             record: &Record,
             count: u32,
@@ -212,6 +215,41 @@ macro_rules! queue_calls {
             }
         }
 
+        pub fn $preview(
+            record: &Record,
+            count: u32,
+            cache: &[u32],
+            evicted: &mut [u32],
+            page: u32,
+            out: &mut [u64],
+        ) {
+            extern "C" {
+                fn $preview(
+                    k: u32,
+                    a: u32,
+                    requests: u32,
+                    loads: u32,
+                    evictions: u32,
+                    count: u32,
+                    cache: *const u32,
+                    cache_len: usize,
+                    evicted: *mut u32,
+                    evicted_len: usize,
+                    page: u32,
+                    out: *mut u64,
+                    out_len: usize,
+                );
+            }
+            let Record { k, a, requests, loads, evictions } = *record;
+            let (places, room, fields) = (cache.len(), evicted.len(), out.len());
+            let (cache, evicted, out) = (cache.as_ptr(), evicted.as_mut_ptr(), out.as_mut_ptr());
+            unsafe {
+                $preview(
+                    k, a, requests, loads, evictions, count, cache, places, evicted, room, page, out, fields,
+                )
+            }
+        }
+
         pub fn $over_trace(k: u32, a: u32, trace: &[u32], out: &mut [u64]) {
             extern "C" {
                 fn $over_trace(
@@ -228,8 +266,8 @@ macro_rules! queue_calls {
     };
 }
 
-queue_calls!(lru_request, lru_over_trace);
-queue_calls!(fifo_request, fifo_over_trace);
+queue_calls!(lru_request, lru_preview, lru_over_trace);
+queue_calls!(fifo_request, fifo_preview, fifo_over_trace);
 
 /// Refusal, bundles, loads.
 pub fn min_count(k: u32, a: u32, trace: &[u32], out: &mut [u64]) {

@@ -90,6 +90,17 @@ pub fn request<P: Policy>(
     Ok(Served { record: next, count: list.len() as u32, answer })
 }
 
+/// What that request would answer, and in the evicted list its bundle: it is served on a copy of the state.
+pub fn preview<P: Policy>(
+    record: &Record,
+    count: u32,
+    cache: &[u32],
+    evicted: &mut [u32],
+    page: u32,
+) -> Result<Served, Refusal> {
+    request::<P>(record, count, &mut cache.to_vec(), evicted, page)
+}
+
 /// What a whole trace does, from an empty buffer.
 #[derive(Clone, Debug, PartialEq, Eq)]
 pub struct Run {

@@ -15,7 +15,7 @@ returns c =
     let page = start .args .page in
     let run = start .args .run in
     let refusal = c .before .before .refusal in
-    answer-refused keeping run count cache evicted page _ _ (refusal .ensures) (c .before .if1 .taken) (c .empty .ensures)
+    answer-refused keeping run count cache evicted page _ _ (refusal .ensures) (c .before .if1 .taken) (c .refused .ensures)
 
 step-requires : tie.Need-step-requires
 step-requires c κs =

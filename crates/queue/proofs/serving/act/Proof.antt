@@ -8,7 +8,6 @@ use Rattle.queue.proofs.serving.act.Tie as tie
 settle-requires : tie.Need-settle-requires
 settle-requires c κs =
     let start = c .before .before .before .before .before .before .before .before .before .before in
-    let keeping = start .args .keeping in
     let run = start .args .run in
     let count = start .args .count in
     let cache = start .args .cache .now in
@@ -16,12 +15,11 @@ settle-requires c κs =
     let page = start .args .page in
     let found = start .args .found in
     let pre = start .pre in
-    can-settle keeping run count cache evicted page (pre .0) found (pre .1)
+    can-settle run count cache evicted page (pre .0) found (pre .1)
 
 answered-requires : tie.Need-answered-requires
 answered-requires c κs =
     let start = c .before .before .before .before .before .before .before .before .before .before .before .before .before in
-    let keeping = start .args .keeping in
     let run = start .args .run in
     let count = start .args .count in
     let cache = start .args .cache .now in
@@ -29,7 +27,7 @@ answered-requires c κs =
     let page = start .args .page in
     let found = start .args .found in
     let pre = start .pre in
-    can-answer keeping run count cache evicted page (pre .0) found (omega arith) (pre .1)
+    can-answer run count cache evicted page (pre .0) found (omega arith) (pre .1)
 
 returns : tie.Need-returns
 returns c =
@@ -44,7 +42,7 @@ returns c =
     let pre = start .pre in
     let evict = c .before .before .before .before .before .before .before .evict in
     let settle = c .before .before .before .settle in
-    acted keeping run count cache evicted page (pre .0) found _ _ _ (pre .1) (c .answered .ensures) (settle .ensures) (evict .ensures)
+    acted run count cache evicted page (pre .0) keeping found _ _ _ (pre .1) (c .answered .ensures) (settle .ensures) (evict .ensures)
 
 pub act-spec : {M : Type 1} → statement M
 act-spec =
