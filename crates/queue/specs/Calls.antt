@@ -57,13 +57,13 @@ abbrev pub evictedOf : Run → (count : ℕ) → (cache evicted : List ℕ) → 
 evictedOf run count cache evicted page =
     pick (eqb (requestRefusal run count cache evicted) 0) (evictedServed run count cache evicted page) evicted
 
--- so told of a request: its answer, and what it left in the two lists
+-- the promise of a request: its answer, and the two lists as it leaves them
 abbrev pub Answered : Keeping → Run → (count : ℕ) → (cache evicted : List ℕ) → (page : ℕ) → Reply → (cacheLeft evictedLeft : List ℕ) → Type 0
 Answered keeping run count cache evicted page reply cacheLeft evictedLeft =
     (reply ≡ replyOf keeping run count cache evicted page)
     × ((cacheLeft ≡ cacheOf keeping run count cache evicted page) × (evictedLeft ≡ evictedOf run count cache evicted page))
 
--- and of a preview (document 02, request 05): "the answer and the evicted list are those of serving the request on a copy of the state, refusals
+-- that of a preview (document 02, request 05): "the answer and the evicted list are those of serving the request on a copy of the state, refusals
 -- included". The record is the caller's own, and the cache list is only looked at
 abbrev pub PreviewedBy : Keeping → Run → (count : ℕ) → (cache evicted : List ℕ) → (page : ℕ) → Reply → (evictedLeft : List ℕ) → Type 0
 PreviewedBy keeping run count cache evicted page reply evictedLeft =

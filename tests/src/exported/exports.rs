@@ -177,26 +177,26 @@ pub type QueuePreview = fn(&Record, u32, &[u32], &mut [u32], u32, &mut [u64]);
 /// A policy over a whole trace: refusal, bundles, loads.
 pub type OverTrace = fn(u32, u32, &[u32], &mut [u64]);
 
-/// The calls of such a policy, declared and made safe.
-macro_rules! queue_calls {
-    ($request:ident, $preview:ident, $over_trace:ident) => {
-        pub fn $request(
+/// A request or a preview, declared and made safe. They differ in how the cache list is lent.
+macro_rules! queue_call {
+    ($call:ident, $lent:ty, $pointer:ty, $point:ident) => {
+        pub fn $call(
             record: &Record,
             count: u32,
-            cache: &mut [u32],
+            cache: $lent,
             evicted: &mut [u32],
             page: u32,
             out: &mut [u64],
         ) {
             extern "C" {
-                fn $request(
+                fn $call(
                     k: u32,
                     a: u32,
                     requests: u32,
                     loads: u32,
                     evictions: u32,
                     count: u32,
-                    cache: *mut u32,
+                    cache: $pointer,
                     cache_len: usize,
                     evicted: *mut u32,
                     evicted_len: usize,
@@ -207,67 +207,35 @@ macro_rules! queue_calls {
             }
             let Record { k, a, requests, loads, evictions } = *record;
             let (places, room, fields) = (cache.len(), evicted.len(), out.len());
-            let (cache, evicted, out) = (cache.as_mut_ptr(), evicted.as_mut_ptr(), out.as_mut_ptr());
+            let (cache, evicted, out) = (cache.$point(), evicted.as_mut_ptr(), out.as_mut_ptr());
             unsafe {
-                $request(
+                $call(
                     k, a, requests, loads, evictions, count, cache, places, evicted, room, page, out, fields,
                 )
             }
-        }
-
-        pub fn $preview(
-            record: &Record,
-            count: u32,
-            cache: &[u32],
-            evicted: &mut [u32],
-            page: u32,
-            out: &mut [u64],
-        ) {
-            extern "C" {
-                fn $preview(
-                    k: u32,
-                    a: u32,
-                    requests: u32,
-                    loads: u32,
-                    evictions: u32,
-                    count: u32,
-                    cache: *const u32,
-                    cache_len: usize,
-                    evicted: *mut u32,
-                    evicted_len: usize,
-                    page: u32,
-                    out: *mut u64,
-                    out_len: usize,
-                );
-            }
-            let Record { k, a, requests, loads, evictions } = *record;
-            let (places, room, fields) = (cache.len(), evicted.len(), out.len());
-            let (cache, evicted, out) = (cache.as_ptr(), evicted.as_mut_ptr(), out.as_mut_ptr());
-            unsafe {
-                $preview(
-                    k, a, requests, loads, evictions, count, cache, places, evicted, room, page, out, fields,
-                )
-            }
-        }
-
-        pub fn $over_trace(k: u32, a: u32, trace: &[u32], out: &mut [u64]) {
-            extern "C" {
-                fn $over_trace(
-                    k: u32,
-                    a: u32,
-                    trace: *const u32,
-                    trace_len: usize,
-                    out: *mut u64,
-                    out_len: usize,
-                );
-            }
-            unsafe { $over_trace(k, a, trace.as_ptr(), trace.len(), out.as_mut_ptr(), out.len()) }
         }
     };
 }
 
-queue_calls!(lru_request, lru_preview, lru_over_trace);
-queue_calls!(fifo_request, fifo_preview, fifo_over_trace);
+queue_call!(lru_request, &mut [u32], *mut u32, as_mut_ptr);
+queue_call!(lru_preview, &[u32], *const u32, as_ptr);
+queue_call!(fifo_request, &mut [u32], *mut u32, as_mut_ptr);
+queue_call!(fifo_preview, &[u32], *const u32, as_ptr);
+
+/// A policy over a trace, declared and made safe.
+macro_rules! over_trace {
+    ($call:ident) => {
+        pub fn $call(k: u32, a: u32, trace: &[u32], out: &mut [u64]) {
+            extern "C" {
+                fn $call(k: u32, a: u32, trace: *const u32, trace_len: usize, out: *mut u64, out_len: usize);
+            }
+            unsafe { $call(k, a, trace.as_ptr(), trace.len(), out.as_mut_ptr(), out.len()) }
+        }
+    };
+}
+
+over_trace!(lru_over_trace);
+over_trace!(fifo_over_trace);
 
 /// Refusal, bundles, loads.
 pub fn min_count(k: u32, a: u32, trace: &[u32], out: &mut [u64]) {

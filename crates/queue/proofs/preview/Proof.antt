@@ -43,7 +43,7 @@ evict-requires c κs =
     let refusal = c .before .before .before .before .before .before .refusal in
     let if1 = c .before .before .before .before .before .if1 in
     let ready = ready-of run count cache evicted (sym (refusal .ensures) ∙ if1 .left) in
-    (omega (arith, ready .sizes .a-high, ready .cache-room), ready .evicted-room)
+    (omega (arith, ready .sizes .a-high, ready .cache-room), omega (arith, ready .evicted-room))
 
 answered-requires : tie.Need-answered-requires
 answered-requires c κs =
