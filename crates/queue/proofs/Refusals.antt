@@ -3,22 +3,25 @@ use Prim.Native.Nat.{ℕ, _≤_, _<_}
 use native.Mathlib.Omega.{arith}
 use mathlib.Core.Bool.{Bool, true, false, not}
 use mathlib.Core.List.{List}
-use mathlib.Core.Path.{_≡_, refl, sym, _∙_}
+use mathlib.Core.Path.{_≡_, refl, sym, ap, _∙_}
 use lib.Dec.{eqb, ltb}
 use lib.ListN.{length, take}
-use borrow.Author.Tests.{eq-eqb, ne-eqb, eqb-false, lt-ltb, le-ltb, le-leb, lt-leb, not-false}
-use Rattle.lists.specs.Choice.{_and_, _or_}
+use borrow.Author.Tests.{eq-eqb, ne-eqb, eqb-true, eqb-false, lt-ltb, le-ltb, le-leb, lt-leb, not-false}
+use Rattle.lists.specs.Choice.{pick, _and_, _or_}
 use Rattle.lists.specs.Pages.{distinct}
-use Rattle.lists.proofs.Choice.{tests, and-l, and-r, and-false-l, and-false-r, or-none-l, or-none-r}
+use Rattle.lists.proofs.Choice.{tests, by-test, and-l, and-r, and-false-l, and-false-r, or-none-l, or-none-r}
 use Rattle.paging.specs.Refusals.{refuse, sizesRefusal, traceRefusal}
 use Rattle.paging.proofs.Refusals.{zero-pass, sizes-pass, sizes-fall, sizes-rest, trace-right}
 use Rattle.paging.specs.declared.Keeping.{Keeping}
 use Rattle.queue.specs.Calls.{wellFormed, runRefusal, requestRefusal, refused, Answered, Previewed, totalsOf}
+use Rattle.queue.specs.Serving.{cacheServed, replyServed}
 use Rattle.queue.specs.Standing.{runOver}
 use Rattle.queue.specs.declared.Reply.{Reply}
 use Rattle.queue.specs.declared.Run.{Run}
+use Rattle.queue.specs.declared.serving.Found.{Found}
+use Rattle.queue.specs.inner.Cases.{foundIn, cacheFor}
 use Rattle.queue.specs.inner.Ready.{RequestReady, TraceReady}
-use Rattle.queue.proofs.Served.{Served, Told}
+use Rattle.queue.proofs.Served.{Told, settled}
 
 module _ (run : Run) (count : ℕ) (cache evicted : List ℕ) (ill : Bool) where
   -- no refusal
@@ -118,28 +121,46 @@ module _ (run : Run) (count : ℕ) (cache : List ℕ) where
 
 -- The answer and the lists
 
-module _ (keeping : Keeping) (run : Run) (count : ℕ) (cache evicted : List ℕ) (page : ℕ) where
-  pub answer-refused : (n : ℕ) (reply : Reply) → n ≡ requestRefusal run count cache evicted → (n ≡ 0 → ⊥) → reply ≡ refused n
-      → Answered keeping run count cache evicted page reply cache evicted
-  answer-refused n reply e z q =
-      (rw (← e, ne-eqb n 0 z) q, (rw (← e, ne-eqb n 0 z) refl, rw (← e, ne-eqb n 0 z) refl))
-
-  pub answer-accepted : (reply : Reply) (y v : List ℕ) → requestRefusal run count cache evicted ≡ 0
-      → Served keeping run count cache evicted page reply y v → Answered keeping run count cache evicted page reply y v
-  answer-accepted reply y v e s = rw e s
-
--- a preview
-
 module _ (run : Run) (count : ℕ) (cache evicted : List ℕ) (page : ℕ) where
-  pub preview-refused : (n : ℕ) (reply : Reply) → n ≡ requestRefusal run count cache evicted → (n ≡ 0 → ⊥) → reply ≡ refused n
-      → Previewed run count cache evicted page reply evicted
-  preview-refused n reply e z q keeping =
-      let s = answer-refused keeping run count cache evicted page n reply e z q in
-      (s .0, s .1 .1)
+  -- what is found, unless the request is refused
+  abbrev Finds : Reply → Found → Type 0
+  Finds reply found = reply .refusal ≡ 0 → found ≡ foundIn (run .k) page (take count cache)
 
-  pub preview-accepted : (reply : Reply) (v : List ℕ) → requestRefusal run count cache evicted ≡ 0
-      → Told run count cache evicted page reply v → Previewed run count cache evicted page reply v
-  preview-accepted reply v e t keeping = rw e (t keeping)
+  pub tell-refused : (n : ℕ) (reply : Reply) (found : Found) → n ≡ requestRefusal run count cache evicted → (n ≡ 0 → ⊥) → reply ≡ refused n
+      → Previewed run count cache evicted page reply evicted × Finds reply found
+  tell-refused n reply found e z q = (
+    λ keeping. (rw (← e, ne-eqb n 0 z) q, rw (← e, ne-eqb n 0 z) refl),
+    λ none. absurd (z (sym (ap (λ (r : Reply). r .refusal) q) ∙ none)),
+  )
+
+  pub tell-accepted : (reply : Reply) (found : Found) (v : List ℕ) → requestRefusal run count cache evicted ≡ 0
+      → found ≡ foundIn (run .k) page (take count cache) → Told run count cache evicted page reply v
+      → Previewed run count cache evicted page reply v × Finds reply found
+  tell-accepted reply found v e f t = (λ keeping. rw e (t keeping), λ none. f)
+
+  -- the request itself: told, then settled
+  module _ (keeping : Keeping) (reply : Reply) (v : List ℕ) (p : Previewed run count cache evicted page reply v) where
+    refusal-is : reply .refusal ≡ requestRefusal run count cache evicted
+    refusal-is =
+        ap (λ (r : Reply). r .refusal) (p keeping .0)
+        ∙ by-test
+        (λ b. pick b (replyServed keeping run count cache page) (refused (requestRefusal run count cache evicted)) .refusal ≡ requestRefusal run count cache evicted)
+        (eqb (requestRefusal run count cache evicted) 0)
+        (λ e. sym (eqb-true _ _ e))
+        (λ e. refl)
+
+    pub request-ready : reply .refusal ≡ 0 → RequestReady run count cache evicted
+    request-ready e = ready-of run count cache evicted (sym refusal-is ∙ e)
+
+    pub request-refused : (reply .refusal ≡ 0 → ⊥) → Answered keeping run count cache evicted page reply cache v
+    request-refused z = (p keeping .0, (rw (ne-eqb (requestRefusal run count cache evicted) 0 (λ e. z (refusal-is ∙ e))) refl, p keeping .1))
+
+    pub request-settled : (found : Found) (y : List ℕ) → reply .refusal ≡ 0 → found ≡ foundIn (run .k) page (take count cache)
+        → y ≡ cacheFor keeping found count (run .k) (run .a) page cache → Answered keeping run count cache evicted page reply y v
+    request-settled found y e f c =
+        let z : requestRefusal run count cache evicted ≡ 0 = sym refusal-is ∙ e in
+        let s : y ≡ cacheServed keeping run count cache page = c ∙ settled run count cache evicted page (request-ready e) keeping found f in
+        (p keeping .0, (rw z s, p keeping .1))
 
 -- A whole trace
 

@@ -3,9 +3,11 @@
 // lru), by load it is oldest load first (document 02, request 01; the crate fifo).
 ghost use Prim.Native.Nat.{_≤_};
 ghost use mathlib.Core.Path.{_≡_};
-ghost use lib.ListN.{length};
+ghost use lib.ListN.{length, take};
 ghost use Rattle.queue.specs.Calls.{wellFormed, runRefusal, refused, replyOf, cacheOf, evictedOf, Previewed, totalsOf};
 ghost use Rattle.queue.specs.Serving.{emptyRun};
+ghost use Rattle.queue.specs.inner.Cases.{foundIn};
+use crate::serving::Found;
 use paging::Keeping;
 use paging::Sizes;
 
@@ -63,11 +65,16 @@ pub fn request(
         × ((now (cache .exit) ≡ cacheOf keeping run count (now (cache .entry)) (now (evicted .entry)) page)
         × (now (evicted .exit) ≡ evictedOf run count (now (cache .entry)) (now (evicted .entry)) page)) ⌝ }
 {
-    let number = refusal(run, count, cache, evicted, false);
-    if number != 0 {
-        return refused(number);
+    let told = tell(run, count, cache, evicted, page);
+    let reply = told.reply;
+    if reply.refusal != 0 {
+        return reply;
     }
-    serving::step(keeping, run, count, cache, evicted, page)
+    let found = told.found;
+    let k = run.k as usize;
+    let a = run.a as usize;
+    serving::settle(keeping, found, count as usize, k, a, cache, page);
+    reply
 }
 
 // What one request would answer and evict (document 02, request 05): the reply and the evicted list are those of `request` on a copy of the state,
@@ -76,15 +83,34 @@ pub fn request(
 pub fn preview(run: Run, count: u32, cache: &[u32], evicted: &mut [u32], page: u32) -> Reply
     ensures { λ r. ⌜ Previewed run count (now (cache .entry)) (now (evicted .entry)) page r (now (evicted .exit)) ⌝ }
 {
+    let told = tell(run, count, cache, evicted, page);
+    told.reply
+}
+
+// A request's reply, and what the request found; of a refused one that says nothing.
+struct Told {
+    reply: Reply,
+    found: Found,
+}
+
+// All of a request but for the cache list: the refusals, what it finds, the bundle in the evicted list and the reply. A preview is just this.
+fn tell(run: Run, count: u32, cache: &[u32], evicted: &mut [u32], page: u32) -> Told
+    ensures { λ r. ⌜ Previewed run count (now (cache .entry)) (now (evicted .entry)) page (r .reply) (now (evicted .exit))
+        × (r .reply .refusal ≡ 0 → r .found ≡ foundIn (run .k) page (take count (now (cache .entry)))) ⌝ }
+{
     let number = refusal(run, count, cache, evicted, false);
     if number != 0 {
-        return refused(number);
+        return Told {
+            reply: refused(number),
+            found: Found::Room,
+        };
     }
     let k = run.k as usize;
     let a = run.a as usize;
     let found = serving::decide(k, &cache[..count as usize], page);
     serving::evict(found, a, cache, evicted);
-    serving::answered(found, run, count)
+    let reply = serving::answered(found, run, count);
+    Told { reply, found }
 }
 
 fn refused(number: u32) -> Reply

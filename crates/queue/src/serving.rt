@@ -149,7 +149,7 @@ pub(crate) fn evict(found: Found, a: usize, cache: &[u32], evicted: &mut [u32])
 }
 
 // The cache list with the page in it. Of the n pages held the bundle's go.
-fn settle(
+pub(crate) fn settle(
     keeping: Keeping,
     found: Found,
     n: usize,

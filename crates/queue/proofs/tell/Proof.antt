@@ -1,12 +1,12 @@
--- `queue::preview` meets its contract: refused, nothing has changed; else the state is ready, and what is decided is told.
+-- `queue::tell` meets its contract: refused, nothing has changed; else the state is ready, and what is decided is told.
 use native.Mathlib.Omega.{arith}
 use mathlib.Core.Path.{sym, _∙_}
 use lib.ListN.{length-take}
 use borrow.Author.Needs.{needs}
-use Rattle.queue.proofs.Refusals.{ready-of, preview-refused, preview-accepted}
+use Rattle.queue.proofs.Refusals.{ready-of, tell-refused, tell-accepted}
 use Rattle.queue.proofs.Served.{told, can-answer}
-use Rattle.queue.proofs.preview.Statement.{statement}
-use Rattle.queue.proofs.preview.Tie as tie
+use Rattle.queue.proofs.tell.Statement.{statement}
+use Rattle.queue.proofs.tell.Tie as tie
 
 returns : tie.Need-returns
 returns c =
@@ -17,7 +17,7 @@ returns c =
     let evicted = start .args .evicted .now in
     let page = start .args .page in
     let refusal = c .before .before .refusal in
-    preview-refused run count cache evicted page _ _ (refusal .ensures) (c .before .if1 .taken) (c .refused .ensures)
+    tell-refused run count cache evicted page _ _ _ (refusal .ensures) (c .before .if1 .taken) (c .refused .ensures)
 
 slice-aggregate-decide : tie.Need-slice-aggregate-decide
 slice-aggregate-decide c =
@@ -72,11 +72,11 @@ returns-2 c =
     let ready = ready-of run count cache evicted (sym (refusal .ensures) ∙ if1 .left) in
     let decide = c .before .before .before .before .before .decide in
     let evict = c .before .before .before .evict in
-    preview-accepted run count cache evicted page _ _ (sym (refusal .ensures) ∙ if1 .left)
+    tell-accepted run count cache evicted page _ _ _ (sym (refusal .ensures) ∙ if1 .left) (decide .ensures)
     (told run count cache evicted page ready _ _ _ (decide .ensures) (c .answered .ensures) (evict .ensures))
 
-pub preview-spec : {M : Type 1} → statement M
-preview-spec =
+pub tell-spec : {M : Type 1} → statement M
+tell-spec =
     tie.close
     (tie.spec
     (λ c κs. search needs)
