@@ -126,12 +126,12 @@ module _ (run : Run) (count : ℕ) (cache evicted : List ℕ) (page : ℕ) (read
       let s = served-by keeping found f in
       (r ∙ s .0, (c ∙ s .1 .0, e ∙ s .1 .1))
 
-  -- the last of them alone
+  -- the step that puts the page into the cache list, alone
   pub settled : (keeping : Keeping) (found : Found) → found ≡ foundIn (run .k) page (take count cache)
       → cacheFor keeping found count (run .k) (run .a) page cache ≡ cacheServed keeping run count cache page
   settled keeping found f = served-by keeping found f .1 .0
 
-  -- the others alone: what is told and the bundle do not hang on how that list is kept
+  -- and the other two: what is told and the bundle do not hang on how that list is kept
   pub told : (found : Found) (reply : Reply) (v : List ℕ) → found ≡ foundIn (run .k) page (take count cache) → reply ≡ replyFor found run count
       → v ≡ evictedFor found (run .a) cache evicted → Told run count cache evicted page reply v
   told found reply v f r e keeping =

@@ -52,7 +52,8 @@ pub struct Reply {
     pub answer: u32,
 }
 
-// One request. The cache list has its count beside it and is kept as said, the first page to go in front; the evicted list receives a bundle.
+// One request. The cache list has its count beside it and is kept as said, the first page to go in front; the evicted list receives a bundle. The
+// request is told first, as a preview tells it, and then the page goes into the cache list.
 pub fn request(
     keeping: Keeping,
     run: Run,
@@ -93,7 +94,8 @@ struct Told {
     found: Found,
 }
 
-// All of a request but for the cache list: the refusals, what it finds, the bundle in the evicted list and the reply. A preview is just this.
+// All of a request but for the cache list: the refusals, what it finds, the bundle in the evicted list and the reply. One for request and preview, so
+// that the check, which takes most of the time of either, is there once.
 fn tell(run: Run, count: u32, cache: &[u32], evicted: &mut [u32], page: u32) -> Told
     ensures { λ r. ⌜ Previewed run count (now (cache .entry)) (now (evicted .entry)) page (r .reply) (now (evicted .exit))
         × (r .reply .refusal ≡ 0 → r .found ≡ foundIn (run .k) page (take count (now (cache .entry)))) ⌝ }
