@@ -220,7 +220,7 @@ fn time_policy<P: Timed>(table: &mut Table) {
     time_requests::<P>(table, "new page, equal low halves", NEW, low_half_zero);
 }
 
-/// The answers to previews of one page on a full buffer, added up. `asked` is the page's place; at 256 it is a new one.
+/// The answers to previews of one page on a full buffer, added up.
 fn preview_all<P: Timed>(a: u32, start: &[u32], page: u32) -> u64 {
     let record = full_record(a);
     let mut evicted = vec![0; a as usize];
@@ -228,7 +228,7 @@ fn preview_all<P: Timed>(a: u32, start: &[u32], page: u32) -> u64 {
     (0..CALLS).map(|_| ask(opaque(page))).sum()
 }
 
-/// Previews beside the plain ones, a few pages in a bundle and many.
+/// Previews beside the plain ones, of the page at a place of the buffer; at 256 it is a new one.
 fn time_previews<P: Timed>(table: &mut Table, what: &str, a: u32, place: usize, name: fn(usize) -> u32) {
     let start: Vec<u32> = (0..K as usize).map(name).collect();
     let ours = || preview_all::<P>(a, &start, name(place));
