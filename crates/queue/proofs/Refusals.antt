@@ -21,7 +21,7 @@ use Rattle.queue.specs.declared.Run.{Run}
 use Rattle.queue.specs.declared.serving.Found.{Found}
 use Rattle.queue.specs.inner.Cases.{foundIn, cacheFor}
 use Rattle.queue.specs.inner.Ready.{RequestReady, TraceReady}
-use Rattle.queue.proofs.Served.{Told, settled}
+use Rattle.queue.proofs.Served.{Tells, settled}
 
 module _ (run : Run) (count : ℕ) (cache evicted : List ℕ) (ill : Bool) where
   -- no refusal
@@ -134,7 +134,7 @@ module _ (run : Run) (count : ℕ) (cache evicted : List ℕ) (page : ℕ) where
   )
 
   pub tell-accepted : (reply : Reply) (found : Found) (v : List ℕ) → requestRefusal run count cache evicted ≡ 0
-      → found ≡ foundIn (run .k) page (take count cache) → Told run count cache evicted page reply v
+      → found ≡ foundIn (run .k) page (take count cache) → Tells run count cache evicted page reply v
       → Previewed run count cache evicted page reply v × Finds reply found
   tell-accepted reply found v e f t = (λ keeping. rw e (t keeping), λ none. f)
 

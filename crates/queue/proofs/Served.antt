@@ -77,8 +77,8 @@ Served keeping run count cache evicted page reply y v =
     × ((y ≡ cacheServed keeping run count cache page) × (v ≡ evictedServed run count cache evicted page))
 
 -- and what a preview tells of it, for either way of keeping the list
-abbrev pub Told : (run : Run) (count : ℕ) (cache evicted : List ℕ) (page : ℕ) → Reply → (v : List ℕ) → Type 0
-Told run count cache evicted page reply v =
+abbrev pub Tells : (run : Run) (count : ℕ) (cache evicted : List ℕ) (page : ℕ) → Reply → (v : List ℕ) → Type 0
+Tells run count cache evicted page reply v =
     (keeping : Keeping) → (reply ≡ replyServed keeping run count cache page) × (v ≡ evictedServed run count cache evicted page)
 
 module _ (run : Run) (count : ℕ) (cache evicted : List ℕ) (page : ℕ) (ready : RequestReady run count cache evicted) where
@@ -133,7 +133,7 @@ module _ (run : Run) (count : ℕ) (cache evicted : List ℕ) (page : ℕ) (read
 
   -- and the other two: what is told and the bundle do not hang on how that list is kept
   pub told : (found : Found) (reply : Reply) (v : List ℕ) → found ≡ foundIn (run .k) page (take count cache) → reply ≡ replyFor found run count
-      → v ≡ evictedFor found (run .a) cache evicted → Told run count cache evicted page reply v
+      → v ≡ evictedFor found (run .a) cache evicted → Tells run count cache evicted page reply v
   told found reply v f r e keeping =
       let s = served-by keeping found f in
       (r ∙ s .0, e ∙ s .1 .1)
