@@ -180,7 +180,7 @@ fn oldest_load(cases: &mut Cases) {
     cases.same("a hit, oldest load", one_request::<Fifo>(3, full, 5), (0, 3, full, [7, 7, 7]));
 }
 
-/// Which layer rule applied, and the counts of the three.
+/// What a request would answer and evict: a hit, a load of a page past the count, a bundle, and three refusals.
 fn previews<P: Policy>(cases: &mut Cases, policy: &str) {
     let name = |what: &str| format!("preview, {}, {}", policy, what);
     cases.same(&name("a hit"), one_preview::<P>(3, 3, 5, 2), (Ok([4, 3, 0, 3, 0]), vec![7, 7]));
@@ -191,6 +191,7 @@ fn previews<P: Policy>(cases: &mut Cases, policy: &str) {
     cases.same(&name("a full counter"), one_preview::<P>(u32::MAX, 3, 9, 2), (Err(12), vec![7, 7]));
 }
 
+/// Which layer rule applied, and the counts of the three.
 fn layer_rules(cases: &mut Cases) {
     let served = |k, a, trace: &[u32]| {
         let (answers, record) = layer_requests(k, a, 9, trace).expect("the requests are sound");
