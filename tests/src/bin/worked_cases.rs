@@ -180,7 +180,7 @@ fn oldest_load(cases: &mut Cases) {
     cases.same("a hit, oldest load", one_request::<Fifo>(3, full, 5), (0, 3, full, [7, 7, 7]));
 }
 
-/// What a request would answer and evict: a hit, a load of a page past the count, a bundle, and three refusals.
+/// What a request would answer and evict: a hit, a load of a page past the count, a bundle, three refusals.
 fn previews<P: Policy>(cases: &mut Cases, policy: &str) {
     let name = |what: &str| format!("preview, {}, {}", policy, what);
     cases.same(&name("a hit"), one_preview::<P>(3, 3, 5, 2), (Ok([4, 3, 0, 3, 0]), vec![7, 7]));
