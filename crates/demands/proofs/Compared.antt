@@ -17,7 +17,7 @@ use Rattle.queue.specs.Standing.{Call, acceptedPages, afterCalls, emptyState}
 use Rattle.queue.specs.declared.Run.{Run}
 use Rattle.queue.proofs.Steps.{calls-from-empty}
 use Rattle.layers.specs.declared.LayersRun.{LayersRun}
-use Rattle.layers.proofs.Steps.{yes-exactly}
+use Rattle.layers.proofs.Steps.{yes-exactly, named-by-trace}
 use Rattle.min.specs.Calls.{bytesRefusal, scheduleRefusal, scheduleWritten}
 use Rattle.min.proofs.ReadBack.{schedule-written}
 use Rattle.judging.specs.Answer.{cost, answerNumber}
@@ -95,6 +95,10 @@ compares k a pos le small =
           let trace = layersTrace calls (layersStart k a places) in
           let yes = yes-exactly k a trace (x .run) (x .pages) (x .numbers) (list-stands k a pos le small places calls) set once answer told in
           yes .1 (min-holds-possible-sets k a pos le trace set once later h);
+      no-names-the-lowest-layer = λ places calls set once answer told.
+          let x = layersAfterCalls calls (layersStart k a places) in
+          let trace = layersTrace calls (layersStart k a places) in
+          named-by-trace k a trace (x .run) (x .pages) (x .numbers) (list-stands k a pos le small places calls) set once answer told;
       min-counts-the-best-count = λ trace e. rw e refl;
       min-reports-the-best-count = λ trace out e. rw e refl;
       min-writes-its-schedule = schedule-written k a;

@@ -1,13 +1,11 @@
 -- The ten cases that document 01 marks for proof ("The eight-request shift"), and cases of document 02's requests, as tables of inputs and results.
 -- A row's result is computed by the definitions that the promises cite.
-use Prim.Native.Nat.{ℕ, zero, suc}
-use mathlib.Core.Bool.{Bool, true, false}
-use mathlib.Core.List.{List, [], _∷_, _++_}
+use Prim.Native.Nat.{ℕ}
+use mathlib.Core.Bool.{Bool, true}
+use mathlib.Core.List.{List, [], _∷_}
 use lib.Dec.{eqb}
 use lib.ListN.{take, replicate}
 use Rattle.lists.specs.Choice.{_and_}
-use Rattle.paging.specs.Layers.{breaksAt}
-use Rattle.paging.specs.Rows.{rowsOf}
 use Rattle.paging.specs.Schedule.{Entry, ev}
 use Rattle.paging.specs.Same.{samePages, sameEntries, shift}
 use Rattle.paging.specs.declared.Keeping.{Keeping}
@@ -19,7 +17,7 @@ use Rattle.queue.specs.Standing.{Call, State, afterCalls, emptyState}
 use Rattle.queue.specs.declared.Reply.{Reply}
 use Rattle.queue.specs.declared.Run.{Run}
 use Rattle.layers.specs.Calls.{requestRefusal, requestReply}
-use Rattle.layers.specs.Questions.{Verdict, refusedWith, possibleSet, countDiffers, brokenAt, verdict, layersIn}
+use Rattle.layers.specs.Questions.{Verdict, refusedWith, possibleSet, countDiffers, brokenAt, verdict}
 use Rattle.layers.specs.Traces.{traceTotals}
 use Rattle.layers.specs.declared.LayersReply.{LayersReply}
 use Rattle.layers.specs.declared.LayersRun.{LayersRun}
@@ -46,8 +44,8 @@ pub data Row : Type 0 where
   counted : (k a : ℕ) (pages : List ℕ) (byMin byLru byLayers s : ℕ) → Row
   -- the table after requests to the layers
   tabled : (k a places : ℕ) (pages tablePages numbers : List ℕ) → Row
-  -- after some requests, a set's verdict, and for each layer from 0 to s whether the rule breaks at it: a "no" names one of those
-  asked : (k a places : ℕ) (pages set : List ℕ) (said : Verdict) (layers : List Bool) → Row
+  -- after some requests, what is answered on a set
+  asked : (k a places : ℕ) (pages set : List ℕ) (said : Verdict) → Row
   -- what the requests to the layers answer one after the other, from the empty record on, and the three counts of the record after them
   answers : (k a places : ℕ) (pages said counts : List ℕ) → Row
   -- a request to the layers on a record and a table answers these fields: the refusal, the record's eight, the rule
@@ -83,11 +81,6 @@ abbrev pub rulesTold : List ℕ → LayersState → List ℕ
 rulesTold [] x = []
 rulesTold (p ∷ ps) x = requestReply (x .run) (x .pages) (x .numbers) p .answer ∷ rulesTold ps (layersNext x (request p))
 
--- whether the rule breaks at each layer from 0 to i
-abbrev pub breaks : (i : ℕ) → LayersState → List ℕ → List Bool
-breaks zero x set = breaksAt (layersIn (x .run) (rowsOf (x .numbers) (x .pages))) set 0 ∷ []
-breaks (suc i) x set = breaks i x set ++ (breaksAt (layersIn (x .run) (rowsOf (x .numbers) (x .pages))) set (suc i) ∷ [])
-
 -- Compared
 
 abbrev pub sameReport : Report → Report → Bool
@@ -105,13 +98,6 @@ spelled possibleSet = 1 ∷ 0 ∷ []
 spelled countDiffers = 2 ∷ 0 ∷ []
 spelled (brokenAt layer) = 3 ∷ layer ∷ []
 
--- the layer that a "no" names
-abbrev pub named : Verdict → ℕ
-named (refusedWith number) = 0
-named possibleSet = 0
-named countDiffers = 0
-named (brokenAt layer) = layer
-
 -- the fields of a reply of LRU or oldest load, the record's after the refusal
 abbrev pub queueFields : Reply → List ℕ
 queueFields r =
@@ -122,17 +108,6 @@ abbrev pub fieldsOf : LayersReply → List ℕ
 fieldsOf r =
     r .refusal ∷ r .run .k ∷ r .run .a ∷ r .run .requests ∷ r .run .evictions ∷ r .run .s
     ∷ r .run .appends ∷ r .run .joins ∷ r .run .lifts ∷ r .answer ∷ []
-
-abbrev pub sameTest : Bool → Bool → Bool
-sameTest true y = y
-sameTest false true = false
-sameTest false false = true
-
-abbrev pub sameTests : List Bool → List Bool → Bool
-sameTests [] [] = true
-sameTests [] (y ∷ ys) = false
-sameTests (x ∷ xs) [] = false
-sameTests (x ∷ xs) (y ∷ ys) = sameTest x y and sameTests xs ys
 
 abbrev pub right : Row → Bool
 right (reports file report) = sameReport (reportOf file) report
@@ -149,9 +124,8 @@ right (counted k a pages byMin byLru byLayers s) =
     eqb (countsOf k a pages .bundles) byMin and eqb (totalsOf ByRequest k a pages .bundles) byLru and eqb (T .bundles) byLayers and eqb (T .s) s
 right (tabled k a places pages tablePages numbers) =
     let x = layersAt k a places pages in samePages (x .pages) tablePages and samePages (x .numbers) numbers
-right (asked k a places pages set said layers) =
-    let x = layersAt k a places pages in
-    samePages (spelled (verdict (x .run) (x .pages) (x .numbers) set (named said))) (spelled said) and sameTests (breaks (x .run .s) x set) layers
+right (asked k a places pages set said) =
+    let x = layersAt k a places pages in samePages (spelled (verdict (x .run) (x .pages) (x .numbers) set)) (spelled said)
 right (answers k a places pages said counts) =
     let run = layersAt k a places pages .run in
     samePages (rulesTold pages (layersStart k a places)) said and samePages (run .appends ∷ run .joins ∷ run .lifts ∷ []) counts
@@ -176,12 +150,12 @@ markedCases =
     -- 4. layers at the end
     ∷ tabled 3 2 5 shift (2 ∷ 4 ∷ 5 ∷ 6 ∷ 1 ∷ []) (1 ∷ 1 ∷ 1 ∷ 2 ∷ 3 ∷ [])
     -- 5. after seven requests {5,6} is possible
-    ∷ asked 3 2 8 (take 7 shift) (5 ∷ 6 ∷ []) possibleSet (false ∷ false ∷ false ∷ [])
-    -- 6. there {2,4} breaks at layer 1 and {1,6} at layer 0, each at no other; {6} differs in count; {6,6} is 11
-    ∷ asked 3 2 8 (take 7 shift) (2 ∷ 4 ∷ []) (brokenAt 1) (false ∷ true ∷ false ∷ [])
-    ∷ asked 3 2 8 (take 7 shift) (1 ∷ 6 ∷ []) (brokenAt 0) (true ∷ false ∷ false ∷ [])
-    ∷ asked 3 2 8 (take 7 shift) (6 ∷ []) countDiffers (false ∷ false ∷ false ∷ [])
-    ∷ asked 3 2 8 (take 7 shift) (6 ∷ 6 ∷ []) (refusedWith 11) (false ∷ false ∷ false ∷ [])
+    ∷ asked 3 2 8 (take 7 shift) (5 ∷ 6 ∷ []) possibleSet
+    -- 6. there {2,4} breaks at layer 1; {1,6} at layer 0; {6} differs in count; {6,6} is 11
+    ∷ asked 3 2 8 (take 7 shift) (2 ∷ 4 ∷ []) (brokenAt 1)
+    ∷ asked 3 2 8 (take 7 shift) (1 ∷ 6 ∷ []) (brokenAt 0)
+    ∷ asked 3 2 8 (take 7 shift) (6 ∷ []) countDiffers
+    ∷ asked 3 2 8 (take 7 shift) (6 ∷ 6 ∷ []) (refusedWith 11)
     -- 7. k 2, a 2, pages 1 2 3: one bundle, s 1
     ∷ counted 2 2 (1 ∷ 2 ∷ 3 ∷ []) 1 1 1 1
     -- 8. k 1, a 1, pages 1 2 1: two bundles
@@ -262,6 +236,21 @@ requestedCases =
     ∷ shows ByLoad (threeLoaded 3) 3 (1 ∷ 2 ∷ 3 ∷ []) (9 ∷ []) 1 (8 ∷ replicate 7 0) (9 ∷ [])
     ∷ shows ByRequest (threeLoaded 4294967295) 3 (1 ∷ 2 ∷ 3 ∷ []) (9 ∷ 9 ∷ []) 4 (12 ∷ replicate 7 0) (9 ∷ 9 ∷ [])
     ∷ shows ByLoad (threeLoaded 4294967295) 3 (1 ∷ 2 ∷ 3 ∷ []) (9 ∷ 9 ∷ []) 4 (12 ∷ replicate 7 0) (9 ∷ 9 ∷ [])
+    -- 06. k 3, a 1, after 1 2 3: {7,8,9} breaks at the layers 0, 1 and 2, and {3,7,8}, in any order, at 0 and 1; the smallest is told
+    ∷ asked 3 1 3 (1 ∷ 2 ∷ 3 ∷ []) (7 ∷ 8 ∷ 9 ∷ []) (brokenAt 0)
+    ∷ asked 3 1 3 (1 ∷ 2 ∷ 3 ∷ []) (8 ∷ 3 ∷ 7 ∷ []) (brokenAt 0)
+    -- the count is looked at first, and 11 before it
+    ∷ asked 3 1 3 (1 ∷ 2 ∷ 3 ∷ []) (7 ∷ 8 ∷ []) countDiffers
+    ∷ asked 3 1 3 (1 ∷ 2 ∷ 3 ∷ []) (7 ∷ 8 ∷ 9 ∷ 10 ∷ []) countDiffers
+    ∷ asked 3 1 3 (1 ∷ 2 ∷ 3 ∷ []) (7 ∷ 8 ∷ 7 ∷ []) (refusedWith 11)
+    -- k 4, a 2, after 1 2 3 4 5, layers {1}, {2,3,4}, {5}: {2,3,9} breaks at 0 and 2 and holds at 1; {2,3,4} breaks at 2, the last below s
+    ∷ asked 4 2 5 (1 ∷ 2 ∷ 3 ∷ 4 ∷ 5 ∷ []) (2 ∷ 3 ∷ 9 ∷ []) (brokenAt 0)
+    ∷ asked 4 2 5 (1 ∷ 2 ∷ 3 ∷ 4 ∷ 5 ∷ []) (2 ∷ 3 ∷ 4 ∷ []) (brokenAt 2)
+    -- k 4, a 3, after 1 2 3 4 5 6 7, layers {1,2,3,4}, {5}, {6}, {7}: {1,2,3,4} breaks at 1, 2 and 3
+    ∷ asked 4 3 7 (1 ∷ 2 ∷ 3 ∷ 4 ∷ 5 ∷ 6 ∷ 7 ∷ []) (1 ∷ 2 ∷ 3 ∷ 4 ∷ []) (brokenAt 1)
+    -- no layers: the set of no page is possible, and no layer is named
+    ∷ asked 3 1 0 [] [] possibleSet
+    ∷ asked 3 1 0 [] (7 ∷ []) countDiffers
     ∷ []
 
 abbrev pub allRight : List Row → Bool

@@ -5,7 +5,9 @@ use mathlib.Core.List.{List, []}
 use mathlib.Core.Logic.{_↔_, _⊎_}
 use mathlib.Core.Path.{_≡_}
 use lib.IntN.{pos}
+use lib.ListN.{length}
 use Rattle.lists.specs.Pages.{distinct}
+use Rattle.paging.specs.Layers.{noLayers, layersAfter, BreaksFirstAt}
 use Rattle.paging.specs.Min.{minRule, bestCount}
 use Rattle.paging.specs.Policy.{holds, bundles}
 use Rattle.paging.specs.Refusals.{largestK, traceRefusal}
@@ -16,9 +18,9 @@ use Rattle.theory.specs.Possible.{CanHold, HoldsJust}
 use Rattle.wire.specs.Numbers.{Bytes}
 use Rattle.records.specs.Bytes.{TraceFileOf, scheduleBytes}
 use Rattle.queue.specs.Standing.{Call, afterCalls, acceptedPages, emptyState}
-use Rattle.layers.specs.Questions.{PossibleTold}
+use Rattle.layers.specs.Questions.{verdictOf, verdict}
 use Rattle.layers.specs.declared.PossibleAnswer.{PossibleAnswer}
-use Rattle.layers.specs.declared.PossibleAnswer.the-variants.{Yes}
+use Rattle.layers.specs.declared.PossibleAnswer.the-variants.{Yes, BrokenAt}
 use Rattle.min.specs.Calls.{countsOf, scheduleRefusal, scheduledOf, scheduleWritten}
 use Rattle.judging.specs.Answer.{refused, answerNumber}
 use Rattle.judging.specs.Files.{judged}
@@ -53,13 +55,20 @@ pub record Compares (k a : ℕ) : Type 0 where
   -- trace so that MIN's rule, on the whole, holds just that set after the trace's last request"
   pub possible-is-what-min-can-hold : (places : ℕ) (calls : List LayersCall) (set : List ℕ) → distinct set ≡ true
       → (answer : PossibleAnswer)
-      → (let x = layersAfterCalls calls (layersStart k a places) in PossibleTold (x .run) (x .pages) (x .numbers) set answer)
+      → (let x = layersAfterCalls calls (layersStart k a places) in verdictOf answer ≡ verdict (x .run) (x .pages) (x .numbers) set)
       → (answer ≡ Yes) ↔ CanHold (minRule a) k (layersTrace calls (layersStart k a places)) set
   -- and whatever pages follow, MIN holds no set that is answered otherwise
   pub no-other-set-is-held : (places : ℕ) (calls : List LayersCall) (set : List ℕ) → distinct set ≡ true
       → (answer : PossibleAnswer)
-      → (let x = layersAfterCalls calls (layersStart k a places) in PossibleTold (x .run) (x .pages) (x .numbers) set answer)
+      → (let x = layersAfterCalls calls (layersStart k a places) in verdictOf answer ≡ verdict (x .run) (x .pages) (x .numbers) set)
       → (later : List ℕ) → HoldsJust (holds (minRule a) k (layersTrace calls (layersStart k a places)) later []) set → answer ≡ Yes
+  -- document 02, request 06: a "no" gives "the smallest i at which the set has more than i pages from L0 to Li", of the layers of the list's trace;
+  -- "'count differs' is still looked at before it", so the set has s pages
+  pub no-names-the-lowest-layer : (places : ℕ) (calls : List LayersCall) (set : List ℕ) → distinct set ≡ true
+      → (answer : PossibleAnswer)
+      → (let x = layersAfterCalls calls (layersStart k a places) in verdictOf answer ≡ verdict (x .run) (x .pages) (x .numbers) set)
+      → (i : ℕ)
+      → (let L = layersAfter k a (layersTrace calls (layersStart k a places)) noLayers in (answer ≡ BrokenAt i) ↔ ((length set ≡ L .top) × BreaksFirstAt L set i))
   -- "for each trace that MIN accepts, the bundles it reports and the EVs it writes are each as many as its best count, and that number is
   -- the judge's answer to a file of the trace and just the schedule's bytes": to every file of it, with runs (document 02, request 03) or without
   pub min-counts-the-best-count : (trace : List ℕ) → traceRefusal k a trace 0 ≡ 0 → countsOf k a trace .bundles ≡ bestCount k a trace

@@ -1,9 +1,7 @@
 -- The fields of each answer that is an enum: the number of its case first, 0 for a refusal, then what the case holds, then zeros. A writer's
 -- answer starts with the refusal's number instead, 0 for none, as an answer that is a record does.
 use Prim.Native.Nat.{ℕ}
-use mathlib.Core.Path.{_≡_}
 use mathlib.Core.List.{List, [], _∷_}
-use Rattle.lists.specs.Places.{pasted}
 use Rattle.reading.specs.Reading.{Answer, refused, ended, sizes, request, bundle, fetch}
 use Rattle.records.specs.Answers.{writtenAnswer}
 use Rattle.records.specs.Writing as writing
@@ -12,8 +10,7 @@ use Rattle.reading.specs.declared.Start.{Start}
 use Rattle.reading.specs.declared.TraceRecord.{TraceRecord}
 use Rattle.reading.specs.declared.ScheduleRecord.{ScheduleRecord}
 use Rattle.records.specs.declared.write.Written.{Written}
-use Rattle.layers.specs.Questions.{Verdict, refusedWith, possibleSet, countDiffers, brokenAt, verdictOf, PossibleTold}
-use Rattle.layers.specs.declared.LayersRun.{LayersRun}
+use Rattle.layers.specs.Questions.{Verdict, refusedWith, possibleSet, countDiffers, brokenAt, verdictOf}
 use Rattle.layers.specs.declared.PossibleAnswer.{PossibleAnswer}
 
 -- what stands at an offset of a file
@@ -51,9 +48,3 @@ verdictFields (brokenAt layer) = 3 ∷ layer ∷ []
 
 abbrev pub possibleFields : PossibleAnswer → List ℕ
 possibleFields r = verdictFields (verdictOf r)
-
--- an answer that the question may give is stored
-pub record PossibleStored (run : LayersRun) (pages numbers set before after : List ℕ) : Type 0 where
-  pub answer : PossibleAnswer
-  pub told : PossibleTold run pages numbers set answer
-  pub stored : after ≡ pasted (possibleFields answer) before

@@ -2,11 +2,11 @@
 ghost use mathlib.Core.Path.{_≡_};
 ghost use Rattle.lists.specs.Places.{pasted};
 ghost use Rattle.layers.specs.Calls.{requestReply, pagesNext, numbersNext};
-ghost use Rattle.layers.specs.Questions.{revealedReply};
+ghost use Rattle.layers.specs.Questions.{revealedReply, verdict};
 ghost use Rattle.layers.specs.Traces.{traceTotals, pagesOver, numbersOver};
 ghost use Rattle.exports.specs.Records.{layersRun};
 ghost use Rattle.exports.specs.Fields.{layersReplyFields, revealedFields, layersTotalsFields};
-ghost use Rattle.exports.specs.Cases.{possibleFields, PossibleStored};
+ghost use Rattle.exports.specs.Cases.{verdictFields, possibleFields};
 use crate::store;
 use layers::LayersRun;
 use layers::PossibleAnswer;
@@ -102,7 +102,7 @@ fn revealed_fields(reply: layers::RevealedReply) -> [u64; 2]
     [reply.refusal as u64, reply.count as u64]
 }
 
-// Whether a set is possible: the case of the answer, and what it holds. As in the call behind it, the layer of a "no" is left free.
+// Whether a set is possible: the case of the answer, and what it holds.
 #[no_mangle]
 pub extern "C" fn layers_possible(
     k: u32,
@@ -118,8 +118,8 @@ pub extern "C" fn layers_possible(
     set: &[u32],
     out: &mut [u64],
 )
-    ensures { λ _. ⌜ PossibleStored (layersRun k a requests evictions s appends joins lifts) (now (pages .entry)) (now (numbers .entry)) (now (set .entry))
-        (now (out .entry)) (now (out .exit)) ⌝ }
+    ensures { λ _. ⌜ now (out .exit)
+        ≡ pasted (verdictFields (verdict (layersRun k a requests evictions s appends joins lifts) (now (pages .entry)) (now (numbers .entry)) (now (set .entry)))) (now (out .entry)) ⌝ }
 {
     let run = LayersRun {
         k,

@@ -2,24 +2,25 @@
 use Prim.Native.Nat.{ℕ, zero, suc, _+_, _-_, _≤_, _<_}
 use native.Mathlib.Numerals.{add-one}
 use native.Mathlib.Omega.{arith}
-use mathlib.Core.Bool.{Bool, true, false, not, true≢false}
+use mathlib.Core.Bool.{Bool, true, false, not}
 use mathlib.Core.List.{List, [], _∷_, map}
 use mathlib.Core.Path.{_≡_, refl, sym, ap, _∙_}
 use lib.Dec.{eqb, leb, ltb, leb·suc-suc}
 use lib.ListN.{length, getD, length-map}
-use borrow.Author.Tests.{eq-eqb, ne-eqb, lt-ltb, le-ltb, le-leb, lt-leb, eqb-true}
+use borrow.Author.Tests.{eq-eqb, ne-eqb, lt-ltb, le-ltb, eqb-true}
 use Rattle.lists.specs.Pages.{count, bit, distinct}
 use Rattle.lists.specs.Sorting.{Row}
-use Rattle.lists.proofs.Choice.{tests, cases, and-i, and-false-l, and-false-r, bit-false}
+use Rattle.lists.proofs.Choice.{tests, cases, bit-false}
 use Rattle.lists.proofs.Pages.{count-sum, count-ext, count-length}
-use Rattle.paging.specs.Layers.{Layers, upTo, holdsUpTo}
+use Rattle.paging.specs.Layers.{upTo, BreaksFirstAt}
 use Rattle.paging.specs.Refusals.{refuse}
 use Rattle.paging.specs.Rows.{rowsOf, usedRows}
 use Rattle.paging.specs.Table.{numberIn, sizeOf, revealed}
+use Rattle.paging.proofs.Possible.{holds-of, holds-not, first-is-lowest}
 use Rattle.paging.proofs.Table.{numberIn-aboveZero}
 use Rattle.layers.specs.Calls.{stateRefusal}
 use Rattle.layers.specs.Formed.{noneAbove}
-use Rattle.layers.specs.Questions.{revealedReply, RevealedTold, layersIn, Verdict, refusedWith, possibleSet, countDiffers, brokenAt, verdictOf, possibleRefusal, verdict, PossibleTold}
+use Rattle.layers.specs.Questions.{revealedReply, RevealedTold, layersIn, refusedWith, countDiffers, verdictOf, possibleRefusal, verdict}
 use Rattle.layers.specs.declared.LayersRun.{LayersRun}
 use Rattle.layers.specs.declared.PossibleAnswer.{PossibleAnswer}
 use Rattle.layers.specs.declared.PossibleAnswer.the-variants.{Yes, CountDiffers, BrokenAt, Refused}
@@ -176,63 +177,42 @@ module _ (run : LayersRun) (rows : List Row) (set sizes : List ℕ) (t : Tallied
       ∙ count-ext (λ n. leb n i) (λ n. ltb n (suc i)) (map (numberIn rows) set) (λ n. sym (leb·suc-suc n i))
       ∙ sym (sum-is (map (numberIn rows) set) sizes t (suc i) (omega arith))
 
--- the rule holds at each layer, or breaks at one
-holds-all : (L : Layers) (set : List ℕ) (s : ℕ) → ((j : ℕ) → j ≤ s → upTo L j set ≤ j) → holdsUpTo L set s ≡ true
-holds-all L set zero low = le-leb _ 0 (low 0 (omega arith))
-holds-all L set (suc s) low = and-i _ _ (le-leb _ (suc s) (low (suc s) (omega arith))) (holds-all L set s (λ j h. low j (omega arith)))
-
-holds-not : (L : Layers) (set : List ℕ) (s i : ℕ) → i ≤ s → i < upTo L i set → holdsUpTo L set s ≡ false
-holds-not L set zero i h g = let z : i ≡ 0 = omega arith in lt-leb _ 0 (rw z at g)
-holds-not L set (suc s) i h g =
-    cases (eqb i (suc s))
-    (λ e. let q = eqb-true i (suc s) e in and-false-l _ _ (lt-leb _ (suc s) (rw q at g)))
-    (λ e. and-false-r _ _ (holds-not L set s i (omega tests) g))
-
--- the answers
-
-abbrev namesLayer : Verdict → Bool
-namesLayer (refusedWith number) = false
-namesLayer possibleSet = false
-namesLayer countDiffers = false
-namesLayer (brokenAt layer) = true
-
--- the verdict without a layer
-told-at-none : (run : LayersRun) (pages numbers set : List ℕ) (r : PossibleAnswer) → namesLayer (verdictOf r) ≡ false
-    → verdictOf r ≡ verdict run pages numbers set 0 → PossibleTold run pages numbers set r
-told-at-none run pages numbers set r none e =
-    record { layer = 0; verdict-told = e; layer-told = λ q. absurd (true≢false (sym (ap namesLayer q) ∙ none)) }
+-- The answers of the question on a set
 
 pub possible-refused : (run : LayersRun) (pages numbers set : List ℕ) (number : ℕ) → number ≡ stateRefusal run pages numbers 0 → (number ≡ 0 → ⊥)
-    → PossibleTold run pages numbers set (Refused number)
+    → refusedWith number ≡ verdict run pages numbers set
 unfolding verdict possibleRefusal
-possible-refused run pages numbers set number e n =
-    told-at-none run pages numbers set (Refused number) refl (rw (state-fall run pages numbers number e n (refuse (not (distinct set)) 11 0), ne-eqb number 0 n))
+possible-refused run pages numbers set number e n = rw (state-fall run pages numbers number e n (refuse (not (distinct set)) 11 0), ne-eqb number 0 n)
 
 module _ (run : LayersRun) (pages numbers set : List ℕ) (r : StateReady run pages numbers) where
-  pub possible-twice : distinct set ≡ false → PossibleTold run pages numbers set (Refused 11)
+  pub possible-twice : distinct set ≡ false → refusedWith 11 ≡ verdict run pages numbers set
   unfolding verdict possibleRefusal
-  possible-twice e =
-      told-at-none run pages numbers set (Refused 11) refl (rw (state-pass run pages numbers r (refuse (not (distinct set)) 11 0), e))
+  possible-twice e = rw (state-pass run pages numbers r (refuse (not (distinct set)) 11 0), e)
 
   module _ (e : distinct set ≡ true) where
     taken : possibleRefusal run pages numbers set ≡ 0
     unfolding possibleRefusal
     taken = rw (state-pass run pages numbers r (refuse (not (distinct set)) 11 0), e)
 
-    pub possible-differs : (length set ≡ run .s → ⊥) → PossibleTold run pages numbers set CountDiffers
+    pub possible-differs : (length set ≡ run .s → ⊥) → countDiffers ≡ verdict run pages numbers set
     unfolding verdict
-    possible-differs n = told-at-none run pages numbers set CountDiffers refl (rw (taken, ne-eqb (length set) (run .s) n))
+    possible-differs n = rw (taken, ne-eqb (length set) (run .s) n)
 
     pub possible-walked : (sizes : List ℕ) (answer : PossibleAnswer) → length set ≡ run .s → run .s ≤ 256 → Tallied (map (numberIn (rowsOf numbers pages)) set) sizes
-        → Walked (run .s) sizes answer → PossibleTold run pages numbers set answer
+        → Walked (run .s) sizes answer → verdictOf answer ≡ verdict run pages numbers set
     unfolding verdict
     possible-walked sizes Yes l h t w =
-        let all = holds-all (layersIn run (rowsOf numbers pages)) set (run .s) (λ j g. let low = w j g in omega (arith, upto-is run (rowsOf numbers pages) set sizes t j (omega arith))) in
-        told-at-none run pages numbers set Yes refl (rw (taken, eq-eqb (length set) (run .s) l, all))
+        let L = layersIn run (rowsOf numbers pages) in
+        let all = holds-of L set (run .s) (λ j g. let low = w j g in omega (arith, upto-is run (rowsOf numbers pages) set sizes t j (omega arith))) in
+        rw (taken, eq-eqb (length set) (run .s) l, all)
     possible-walked sizes (BrokenAt i) l h t w =
+        let L = layersIn run (rowsOf numbers pages) in
         let low = w .0 in
-        let more : i < upTo (layersIn run (rowsOf numbers pages)) i set = let high = w .1 in omega (arith, upto-is run (rowsOf numbers pages) set sizes t i (omega arith)) in
-        let bad = holds-not (layersIn run (rowsOf numbers pages)) set (run .s) i low more in
-        record { layer = i; verdict-told = rw (taken, eq-eqb (length set) (run .s) l, bad); layer-told = λ q. (low, lt-ltb i _ more) }
+        let more : i < upTo L i set = let high = w .1 in omega (arith, upto-is run (rowsOf numbers pages) set sizes t i (omega arith)) in
+        let first : BreaksFirstAt L set i = record {
+          breaks = lt-ltb i _ more;
+          none-lower = λ j g. let most = w .2 j g in le-ltb j _ (omega (arith, upto-is run (rowsOf numbers pages) set sizes t j (omega arith)));
+        } in
+        rw (taken, eq-eqb (length set) (run .s) l, holds-not L set (run .s) i low more, first-is-lowest L set (run .s) i low first)
     possible-walked sizes CountDiffers l h t w = absurd w
     possible-walked sizes (Refused number) l h t w = absurd w

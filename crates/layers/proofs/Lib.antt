@@ -3,6 +3,7 @@ pub mod WellFormed
 pub mod Refusing
 pub mod Order
 pub mod Asking
+pub mod LowestLayer
 pub mod Forming
 pub mod Steps
 pub mod TraceLaws

@@ -2,18 +2,19 @@
 -- stands for the longer trace, no such state is refused as ill formed, and a question is answered by the layers of the trace as a map.
 use Prim.Native.Nat.{ℕ, zero, suc, _+_, _-_, _≤_}
 use native.Mathlib.Omega.{arith}
-use mathlib.Core.Bool.{Bool, true, false, not, false≢true}
+use mathlib.Core.Bool.{Bool, true, false, not}
 use mathlib.Core.List.{List, [], _∷_, _++_}
+use mathlib.Core.Logic.{_↔_}
 use mathlib.Core.Path.{_≡_, refl, sym, ap, subst, _∙_}
 use lib.Dec.{eqb, ltb}
 use lib.ListN.{length, replicate, length-append, length-replicate}
 use borrow.Author.Tests.{eq-eqb, ne-eqb, le-ltb, ltb-false}
-use Rattle.lists.specs.Choice.{pick, _and_}
+use Rattle.lists.specs.Choice.{_and_}
 use Rattle.lists.specs.Pages.{bit, count, distinct}
 use Rattle.lists.specs.Sorting.{Row}
 use Rattle.lists.proofs.Choice.{tests, cases, and-i, or-none, or-none-l, or-none-r}
 use Rattle.lists.proofs.Pages.{count-snoc}
-use Rattle.paging.specs.Layers.{Layers, LayerRule, noLayers, isAppend, isJoin, isLift, layerRule, topAfter, layersAfter, layerRules, joinCount, holdsUpTo, possible}
+use Rattle.paging.specs.Layers.{LayerRule, noLayers, isAppend, isJoin, isLift, layerRule, topAfter, layersAfter, layerRules, joinCount, possible, BreaksFirstAt}
 use Rattle.paging.specs.Refusals.{refuse, SizesRight}
 use Rattle.paging.specs.Rows.{rowsOf, numbersOf, pagesOf, unused, usedRows, tableOf}
 use Rattle.paging.specs.Table.{numberIn, revealed, Tabled, nothingYet, tabledNext, tabledAfter}
@@ -24,12 +25,13 @@ use Rattle.paging.proofs.Rules.{layers-snoc, rules-length, rules-snoc, rules-ad
 use Rattle.paging.proofs.Table.{tabled-map, tabled-top, tabled-joins, tabled-snoc}
 use Rattle.layers.specs.Calls.{emptyRun, stateRefusal, rowsNext, ruleNext, ruleNumber, replyNext, requestRefusal, requestReply, tableNext, pagesNext, numbersNext}
 use Rattle.layers.specs.Formed.{layersWellFormed, isUnused}
-use Rattle.layers.specs.Questions.{layersIn, Verdict, possibleSet, countDiffers, brokenAt, refusedWith, verdictOf, judged, possibleRefusal, verdict, PossibleTold}
+use Rattle.layers.specs.Questions.{layersIn, verdictOf, judged, possibleRefusal, verdict}
 use Rattle.layers.specs.Traces.{overflows, allUnused, traceTotals, pagesOver, numbersOver, overRefusal, earlyRefusal}
 use Rattle.layers.specs.declared.LayersRun.{LayersRun}
 use Rattle.layers.specs.declared.PossibleAnswer.{PossibleAnswer}
-use Rattle.layers.specs.declared.PossibleAnswer.the-variants.{Yes, CountDiffers, BrokenAt, Refused}
+use Rattle.layers.specs.declared.PossibleAnswer.the-variants.{Yes, BrokenAt}
 use Rattle.layers.proofs.Forming.{formed-table}
+use Rattle.layers.proofs.LowestLayer.{yes-is-possible, broken-is-first}
 use Rattle.layers.proofs.WellFormed.{well-both}
 
 -- Rows along a trace
@@ -269,44 +271,23 @@ module _ (k a : ℕ) (trace : List ℕ) (run : LayersRun) (pages numbers : List 
   layers-agree = λ i. record { of = λ q. map-agrees q i; top = ap (λ r. r .s) (S .run-is) i }
 
   -- a set without repeats is judged by the layers of the trace
-  pub verdict-agrees : (set : List ℕ) (layer : ℕ) → distinct set ≡ true
-      → verdict run pages numbers set layer ≡ judged (layersAfter k a trace noLayers) set layer
-  verdict-agrees set layer d = unfold verdict possibleRefusal in
+  pub verdict-agrees : (set : List ℕ) → distinct set ≡ true → verdict run pages numbers set ≡ judged (layersAfter k a trace noLayers) set
+  verdict-agrees set d = unfold verdict possibleRefusal in
       rw (never-ill-formed k a trace run pages numbers S (refuse (not (distinct set)) 11 0), d)
-      (ap (λ L. judged L set layer) layers-agree)
+      (ap (λ L. judged L set) layers-agree)
 
-abbrev isPossible : Verdict → Bool
-isPossible (refusedWith number) = false
-isPossible possibleSet = true
-isPossible countDiffers = false
-isPossible (brokenAt layer) = false
-
-judged-possible : (L : Layers) (set : List ℕ) (layer : ℕ) → isPossible (judged L set layer) ≡ possible L set
-judged-possible L set layer = one (eqb (length set) (L .top)) (holdsUpTo L set (L .top))
-  where
-    one : (b c : Bool) → isPossible (pick b (pick c possibleSet (brokenAt layer)) countDiffers) ≡ b and c
-    one true true = unfold _and_ in refl
-    one true false = unfold _and_ in refl
-    one false c = unfold _and_ in refl
-
-only-yes : (r : PossibleAnswer) → isPossible (verdictOf r) ≡ true → r ≡ Yes
-only-yes Yes e = refl
-only-yes CountDiffers e = absurd (false≢true e)
-only-yes (BrokenAt i) e = absurd (false≢true e)
-only-yes (Refused number) e = absurd (false≢true e)
-
-module _ (k a : ℕ) (trace : List ℕ) (run : LayersRun) (pages numbers : List ℕ) (S : Stands k a trace run pages numbers) (set : List ℕ) (d : distinct set ≡ true) where
-  told : (layer : ℕ) → isPossible (verdict run pages numbers set layer) ≡ possible (layersAfter k a trace noLayers) set
-  told layer =
-      ap isPossible (verdict-agrees k a trace run pages numbers S set layer d) ∙ judged-possible (layersAfter k a trace noLayers) set layer
+module _ (k a : ℕ) (trace : List ℕ) (run : LayersRun) (pages numbers : List ℕ) (S : Stands k a trace run pages numbers) (set : List ℕ) (d : distinct set ≡ true)
+    (r : PossibleAnswer) (told : verdictOf r ≡ verdict run pages numbers set) where
+  judged-by-trace : verdictOf r ≡ judged (layersAfter k a trace noLayers) set
+  judged-by-trace = told ∙ verdict-agrees k a trace run pages numbers S set d
 
   -- an answer that keeps the promise of the question is Yes exactly if the set is possible by the layers of the trace
-  pub yes-exactly : (r : PossibleAnswer) → PossibleTold run pages numbers set r
-      → (r ≡ Yes → possible (layersAfter k a trace noLayers) set ≡ true) × (possible (layersAfter k a trace noLayers) set ≡ true → r ≡ Yes)
-  yes-exactly r P = (
-    λ e. sym (told (P .layer)) ∙ sym (ap isPossible (P .verdict-told)) ∙ ap (λ z. isPossible (verdictOf z)) e,
-    λ e. only-yes r (ap isPossible (P .verdict-told) ∙ told (P .layer) ∙ e),
-  )
+  pub yes-exactly : (r ≡ Yes) ↔ (possible (layersAfter k a trace noLayers) set ≡ true)
+  yes-exactly = yes-is-possible (layersAfter k a trace noLayers) set r judged-by-trace
+
+  -- and names a layer exactly if the set has s pages and the rule breaks there and at no layer below
+  pub named-by-trace : (i : ℕ) → (r ≡ BrokenAt i) ↔ ((length set ≡ layersAfter k a trace noLayers .top) × BreaksFirstAt (layersAfter k a trace noLayers) set i)
+  named-by-trace = broken-is-first (layersAfter k a trace noLayers) set r judged-by-trace
 
 -- The call over a whole trace
 

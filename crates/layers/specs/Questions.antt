@@ -1,7 +1,7 @@
 -- The questions on the layers (document 01, "Layers" for revealed pages, "Possible set"). A question changes nothing and counts no
 -- request, so it judges neither 12 nor 10.
-use Prim.Native.Nat.{ℕ, _-_, _≤_}
-use mathlib.Core.Bool.{true, not}
+use Prim.Native.Nat.{ℕ, _-_}
+use mathlib.Core.Bool.{not}
 use mathlib.Core.List.{List}
 use mathlib.Core.Path.{_≡_}
 use lib.Dec.{eqb, ltb}
@@ -9,7 +9,7 @@ use lib.ListN.{length, drop}
 use Rattle.lists.specs.Choice.{pick}
 use Rattle.lists.specs.Pages.{distinct, filter}
 use Rattle.lists.specs.Sorting.{Row}
-use Rattle.paging.specs.Layers.{Layers, breaksAt, holdsUpTo}
+use Rattle.paging.specs.Layers.{Layers, holdsUpTo, lowestBroken}
 use Rattle.paging.specs.Refusals.{refuse}
 use Rattle.paging.specs.Rows.{rowsOf, usedRows}
 use Rattle.paging.specs.Table.{numberIn, revealed}
@@ -48,7 +48,7 @@ pub record RevealedTold (run : LayersRun) (pages numbers : List ℕ) (r : Reveal
 abbrev pub layersIn : LayersRun → List Row → Layers
 layersIn run rows = record { of = numberIn (usedRows rows); top = run .s }
 
--- the answers that document 01 names: a refusal's number, "yes", "count differs", or a layer at which the rule breaks
+-- the answers that documents 01 and 02 name: a refusal's number, "yes", "count differs", or the smallest layer at which the rule breaks
 pub data Verdict : Type 0 where
   refusedWith : (number : ℕ) → Verdict
   possibleSet : Verdict
@@ -62,22 +62,20 @@ verdictOf CountDiffers = countDiffers
 verdictOf (BrokenAt i) = brokenAt i
 verdictOf (Refused number) = refusedWith number
 
--- the verdict on a set that is not refused: the count is looked at first. `layer` is the one that a "no" names
-abbrev pub judged : Layers → (set : List ℕ) → (layer : ℕ) → Verdict
-judged L set layer = pick (eqb (length set) (L .top)) (pick (holdsUpTo L set (L .top)) possibleSet (brokenAt layer)) countDiffers
+-- the verdict on a set that is not refused: the count is looked at first, and a "no" on a set of s pages names the smallest layer at which the
+-- rule breaks (document 02, request 06)
+abbrev pub judged : Layers → (set : List ℕ) → Verdict
+judged L set =
+    pick (eqb (length set) (L .top))
+    (pick (holdsUpTo L set (L .top)) possibleSet (brokenAt (lowestBroken L set (L .top))))
+    countDiffers
 
 -- the refusals of the question, in order; 11 where the set names a page twice
 unfoldable pub possibleRefusal : LayersRun → (pages numbers set : List ℕ) → ℕ
 possibleRefusal run pages numbers set = stateRefusal run pages numbers (refuse (not (distinct set)) 11 0)
 
-unfoldable pub verdict : LayersRun → (pages numbers set : List ℕ) → (layer : ℕ) → Verdict
-verdict run pages numbers set layer =
+-- what the question answers
+unfoldable pub verdict : LayersRun → (pages numbers set : List ℕ) → Verdict
+verdict run pages numbers set =
     let number = possibleRefusal run pages numbers set in
-    pick (eqb number 0) (judged (layersIn run (rowsOf numbers pages)) set layer) (refusedWith number)
-
--- the promise of the question: the verdict, where the layer that a "no" names is left free, as long as it is from 0 to s and the rule
--- breaks at it
-pub record PossibleTold (run : LayersRun) (pages numbers set : List ℕ) (r : PossibleAnswer) : Type 0 where
-  pub layer : ℕ
-  pub verdict-told : verdictOf r ≡ verdict run pages numbers set layer
-  pub layer-told : verdictOf r ≡ brokenAt layer → (layer ≤ run .s) × (breaksAt (layersIn run (rowsOf numbers pages)) set layer ≡ true)
+    pick (eqb number 0) (judged (layersIn run (rowsOf numbers pages)) set) (refusedWith number)

@@ -4,7 +4,7 @@ ghost use Prim.Native.Nat.{_≤_};
 ghost use mathlib.Core.Path.{_≡_};
 ghost use Rattle.table.specs.Serving.{ruleOf};
 ghost use Rattle.layers.specs.Calls.{emptyRun, stateRefusal, runCounted, replyBy, requestReply, pagesNext, numbersNext, refused};
-ghost use Rattle.layers.specs.Questions.{RevealedTold, PossibleTold};
+ghost use Rattle.layers.specs.Questions.{RevealedTold, verdictOf, verdict};
 ghost use Rattle.layers.specs.Traces.{refusedTotals, traceTotals, pagesOver, numbersOver};
 ghost use Rattle.layers.specs.inner.Counting.{CountersFit};
 use paging::Sizes;
@@ -68,7 +68,7 @@ pub struct RevealedReply {
 pub enum PossibleAnswer {
     Yes,
     CountDiffers,
-    // The rule breaks at this layer.
+    // The smallest layer i such that more than i pages of the set are in L0 to Li.
     BrokenAt(u32),
     Refused(u32),
 }
@@ -188,9 +188,9 @@ pub fn revealed(run: LayersRun, pages: &[u32], numbers: &[u32]) -> RevealedReply
     }
 }
 
-// Whether a set is possible. The count is looked at first; the layer of a "no" is the smallest at which the rule breaks.
+// Whether a set is possible. The count is looked at first, then the layers from L0 up: a "no" names the first at which the rule breaks.
 pub fn possible(run: LayersRun, pages: &[u32], numbers: &[u32], set: &[u32]) -> PossibleAnswer
-    ensures { λ r. ⌜ PossibleTold run (now (pages .entry)) (now (numbers .entry)) (now (set .entry)) r ⌝ }
+    ensures { λ r. ⌜ verdictOf r ≡ verdict run (now (pages .entry)) (now (numbers .entry)) (now (set .entry)) ⌝ }
 {
     let no = state_refusal(run, pages, numbers);
     if no != 0 {

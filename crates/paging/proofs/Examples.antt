@@ -8,7 +8,7 @@ use lib.Dec.{eqb}
 use lib.ListN.{take}
 use Rattle.lists.specs.Choice.{_and_, _or_}
 use Rattle.lists.specs.Sorting.{rowBefore}
-use Rattle.paging.specs.Layers.{Layers, noLayers, layersAfter, joinCount, possible, breaksAt}
+use Rattle.paging.specs.Layers.{Layers, noLayers, layersAfter, joinCount, possible, breaksAt, lowestBroken}
 use Rattle.paging.specs.Front.{frontRule, lruRule}
 use Rattle.paging.specs.Min.{minRule, bestCount, minLoads, farther}
 use Rattle.paging.specs.Policy.{bundles, bundlesBy, holdsBy, bundleCount, bundleCountBy, loadCount, loadCountBy}
@@ -35,6 +35,10 @@ hitThenFull = 1 ∷ 2 ∷ 3 ∷ 1 ∷ 4 ∷ 1 ∷ []
 seven : Layers
 seven = layersAfter 3 2 (take 7 shift) noLayers
 
+-- the layers {1}, {2, 3, 4}, {5}
+five : Layers
+five = layersAfter 4 2 (1 ∷ 2 ∷ 3 ∷ 4 ∷ 5 ∷ []) noLayers
+
 examples : List Bool
 examples =
     sameEntries (bundles (minRule 2) 3 0 shift [] []) minShift
@@ -57,6 +61,16 @@ examples =
     ∷ not (possible seven (6 ∷ []))
     ∷ not (possible seven (2 ∷ 4 ∷ []))
     ∷ not (possible seven (1 ∷ 6 ∷ []))
+    -- the smallest layer at which the rule breaks (request 06): the only one; the first of three in a row; the first of two, with one between at
+    -- which the rule holds
+    ∷ eqb (lowestBroken seven (2 ∷ 4 ∷ []) 2) 1
+    ∷ eqb (lowestBroken seven (1 ∷ 6 ∷ []) 2) 0
+    ∷ eqb (lowestBroken (layersAfter 3 1 (1 ∷ 2 ∷ 3 ∷ []) noLayers) (7 ∷ 8 ∷ 9 ∷ []) 3) 0
+    ∷ eqb (lowestBroken (layersAfter 4 3 (1 ∷ 2 ∷ 3 ∷ 4 ∷ 5 ∷ 6 ∷ 7 ∷ []) noLayers) (1 ∷ 2 ∷ 3 ∷ 4 ∷ []) 4) 1
+    ∷ breaksAt five (9 ∷ 2 ∷ 3 ∷ []) 0
+    ∷ not (breaksAt five (9 ∷ 2 ∷ 3 ∷ []) 1)
+    ∷ breaksAt five (9 ∷ 2 ∷ 3 ∷ []) 2
+    ∷ eqb (lowestBroken five (9 ∷ 2 ∷ 3 ∷ []) 3) 0
     ∷ serves 3 2 shift minShift
     ∷ eqb (entriesCost minShift) 2
     ∷ eqb (joinCount 2 2 (1 ∷ 2 ∷ 3 ∷ [])) 1
@@ -90,5 +104,5 @@ examples =
     ∷ []
 
 examples-hold : every examples ≡ true
-unfolding every examples seven minShift lruShift hitThenFull table samePages sameEntries _and_ _or_ rowBefore farther
+unfolding every examples seven five minShift lruShift hitThenFull table samePages sameEntries _and_ _or_ rowBefore farther
 examples-hold = refl

@@ -5,3 +5,4 @@ pub mod Table
 pub mod Rules
 pub mod Rows
 pub mod Forming
+pub mod Possible

@@ -1,8 +1,9 @@
 -- The layers (document 01, "Layers"; source document 001, Figure 1) as a map: each page has the number of its layer, 0 for L0.
 -- The proof of the source's Theorem 1 exchanges the names 1a and 1b; the figure's names are used here.
-use Prim.Native.Nat.{ℕ, zero, suc, _+_, _-_, min}
+use Prim.Native.Nat.{ℕ, zero, suc, _+_, _-_, _<_, min}
 use mathlib.Core.Bool.{Bool, true, false}
 use mathlib.Core.List.{List, [], _∷_}
+use mathlib.Core.Path.{_≡_}
 use lib.Dec.{eqb, leb, ltb}
 use lib.ListN.{length}
 use Rattle.lists.specs.Choice.{pick, _and_}
@@ -94,3 +95,13 @@ holdsUpTo L set (suc i) = leb (upTo L (suc i) set) (suc i) and holdsUpTo L set i
 -- a set, its pages each named once, is possible: s pages, and at each i from 0 to s at most i of them from L0 to Li
 abbrev pub possible : Layers → (set : List ℕ) → Bool
 possible L set = eqb (length set) (L .top) and holdsUpTo L set (L .top)
+
+-- the smallest layer from 0 to i at which the rule breaks, where it does not hold at each of them (document 02, request 06)
+abbrev pub lowestBroken : Layers → (set : List ℕ) → ℕ → ℕ
+lowestBroken L set zero = 0
+lowestBroken L set (suc i) = pick (holdsUpTo L set i) (suc i) (lowestBroken L set i)
+
+-- the rule breaks at layer i, and at none below it
+pub record BreaksFirstAt (L : Layers) (set : List ℕ) (i : ℕ) : Type 0 where
+  pub breaks : breaksAt L set i ≡ true
+  pub none-lower : (j : ℕ) → j < i → breaksAt L set j ≡ false

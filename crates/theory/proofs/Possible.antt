@@ -1,6 +1,6 @@
 -- Possible sets are exact (source document 001, Lemma 1): a set is possible by the layers exactly if MIN can come to hold just that set. To
 -- show that it can, the set itself follows the trace.
-use Prim.Native.Nat.{ℕ, zero, suc, _≤_}
+use Prim.Native.Nat.{ℕ, _≤_}
 use native.Mathlib.Omega.{arith}
 use mathlib.Core.Bool.{Bool, true, not}
 use mathlib.Core.List.{List, []}
@@ -9,32 +9,20 @@ use mathlib.Core.Path.{_≡_, refl, sym, _∙_}
 use lib.Dec.{leb}
 use lib.ListN.{length}
 use lib.Seq.{take-length}
-use borrow.Author.Tests.{eqb-true, leb-true, leb-false, le-leb, eq-eqb, not-false}
+use borrow.Author.Tests.{eqb-true, leb-false, eq-eqb, not-false}
 use Rattle.lists.specs.Choice.{_and_}
 use Rattle.lists.specs.Pages.{mem, distinct, count}
-use Rattle.lists.proofs.Choice.{tests, cases, clash, and-l, and-r, and-i, same-test, not-i}
+use Rattle.lists.proofs.Choice.{cases, clash, and-l, and-r, and-i, same-test, not-i}
 use Rattle.lists.proofs.Pages.{Same, Once, distinct-once, count-incl, count-by, count-zero, count-length, count-not, count-all, same-of-members, length-same}
-use Rattle.paging.specs.Layers.{Layers, noLayers, layersAfter, upTo, holdsUpTo, possible}
+use Rattle.paging.specs.Layers.{Layers, noLayers, layersAfter, upTo, possible}
 use Rattle.paging.specs.Min.{minRule}
 use Rattle.paging.specs.Policy.{Rule, holds}
+use Rattle.paging.proofs.Possible.{holds-at, holds-of}
 use Rattle.theory.specs.Farthest.{Farthest}
 use Rattle.theory.specs.Possible.{HoldsJust, CanHold}
 use Rattle.theory.proofs.LayerSteps.{Cut, Agree}
 use Rattle.theory.proofs.Layers.{layers-agree-with-min}
 use Rattle.theory.proofs.Orders.{minRule-is-farthest}
-
--- the rule at each layer
-
-pub holdsUpTo-at : (L : Layers) (set : List ℕ) (s : ℕ) → holdsUpTo L set s ≡ true → (i : ℕ) → i ≤ s → upTo L i set ≤ i
-holdsUpTo-at L set zero h i l = let z : i ≡ 0 = omega arith in rw z (leb-true _ _ h)
-holdsUpTo-at L set (suc s) h i l =
-    cases (leb i s)
-    (λ e. holdsUpTo-at L set s (and-r _ _ h) i (leb-true _ _ e))
-    (λ e. let z : i ≡ suc s = omega tests in rw z (leb-true _ _ (and-l _ _ h)))
-
-pub holdsUpTo-of : (L : Layers) (set : List ℕ) (s : ℕ) → ((i : ℕ) → i ≤ s → upTo L i set ≤ i) → holdsUpTo L set s ≡ true
-holdsUpTo-of L set zero h = le-leb _ _ (h 0 (omega arith))
-holdsUpTo-of L set (suc s) h = and-i _ _ (le-leb _ _ (h (suc s) (omega arith))) (holdsUpTo-of L set s (λ i l. h i (omega arith)))
 
 -- the pages held where the set follows are the set
 module _ (k : ℕ) (L : Layers) (set held : List ℕ) (A : Agree k L set held) (o : Once set) (sized : length set ≡ L .top)
@@ -73,7 +61,7 @@ module _ (k a : ℕ) (pos : 1 ≤ a) (le : a ≤ k) (rule : Rule) (F : Farthest 
       let held = holds rule k trace later [] in
       let same : Same held set = same-of-members held set (A .once) (distinct-once set d) h in
       and-i _ _ (eq-eqb _ _ (sym (length-same held set same) ∙ A .size))
-      (holdsUpTo-of (layersAfter k a trace noLayers) set (layersAfter k a trace noLayers .top)
+      (holds-of (layersAfter k a trace noLayers) set (layersAfter k a trace noLayers .top)
       (λ i l. omega (arith, same (λ q. leb (layersAfter k a trace noLayers .of q) i), A .below i)))
 
   -- where a possible set follows the trace, the rule holds just that set
@@ -82,7 +70,7 @@ module _ (k a : ℕ) (pos : 1 ≤ a) (le : a ≤ k) (rule : Rule) (F : Farthest 
       let L = layersAfter k a trace noLayers in
       let A = layers-agree-with-min k a pos le rule F trace set in
       let sized : length set ≡ L .top = eqb-true _ _ (and-l _ _ h) in
-      let fits = holdsUpTo-at L set (L .top) (and-r _ _ h) in
+      let fits = holds-at L set (L .top) (and-r _ _ h) in
       λ q. same-test _ _ (held-in-set k L set (holds rule k trace set []) A (distinct-once set d) sized fits q)
       (set-held k L set (holds rule k trace set []) A (distinct-once set d) sized fits q)
 

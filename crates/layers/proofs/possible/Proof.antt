@@ -89,7 +89,7 @@ returns-4 c =
     let tally-set = c .before .before .tally-set in
     let r = state-ready run pages numbers (sym (state-refusal .ensures) ∙ if1 .left) in
     possible-walked run pages numbers set r (sym (no-page-twice .ensures) ∙ if2 .taken)
-    (tally-set .result) _ (if3 .left ∙ wide .ensures) (s-most run pages numbers r) (tally-set .ensures) (c .first-broken .ensures)
+    (tally-set .result) (c .first-broken .result) (if3 .left ∙ wide .ensures) (s-most run pages numbers r) (tally-set .ensures) (c .first-broken .ensures)
 
 pub possible-spec : {M : Type 1} → statement M
 possible-spec =

@@ -1,7 +1,6 @@
--- `layers_possible` meets its contract: the answer of the question is stored, whichever layer it names.
+-- `layers_possible` meets its contract: the fields of the answer are stored.
 use Rattle.exports.proofs.Stored.{stored}
-use Rattle.exports.specs.Cases.{possibleFields}
-use mathlib.Core.Path.{refl}
+use Rattle.exports.specs.Cases.{verdictFields}
 use borrow.Author.Needs.{needs}
 use Rattle.exports.proofs.layers_calls.layers_possible.Statement.{statement}
 use Rattle.exports.proofs.layers_calls.layers_possible.Tie as tie
@@ -10,13 +9,7 @@ returns : tie.Need-returns
 returns c =
     let start = c .before .before .before .before .before .before .before .before .before .before .before in
     let call = c .before .before .before .before .before .before .possible in
-    record {
-      answer = call .result;
-      told = call .ensures;
-      stored =
-          stored {answer = call .result} possibleFields (start .args .out .now) (c .before .before .fields .ensures)
-          (c .before .before .before .before .before .possible-fields .ensures) refl;
-    }
+    stored verdictFields (start .args .out .now) (c .before .before .fields .ensures) (c .before .before .before .before .before .possible-fields .ensures) (call .ensures)
 
 pub layers-possible-spec : {M : Type 1} → statement M
 layers-possible-spec =
