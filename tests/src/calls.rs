@@ -96,9 +96,6 @@ pub trait Call: Clone + Debug + PartialEq {
 
     /// The static library's call.
     fn exported(&mut self, out: &mut [u64]);
-
-    /// Where document 01 leaves a field free, takes over what was given, if that is right.
-    fn settle(&self, _answer: &mut Answer, _given: &[u64]) {}
 }
 
 /// How often each refusal and each other kind of answer of a call was met.
@@ -144,12 +141,11 @@ impl Reached {
     /// with its lists as it left them. Mostly `out` has places to spare, at times it is too short.
     pub fn compare<C: Call>(&mut self, call: &C) -> (C, Answer) {
         let (mut ours, mut theirs) = (call.clone(), call.clone());
-        let mut answer = theirs.expected();
+        let answer = theirs.expected();
         let (calls, fields) = (self.row::<C>().calls, answer.fields.len());
         let room = if calls % 8 == 7 { calls / 8 % (fields + 1) } else { fields + 2 };
         let (mut out, mut expected) = (Lent::<u64>::marks(room), Lent::<u64>::marks(room));
         ours.exported(out.list_mut());
-        call.settle(&mut answer, out.list());
         for (place, field) in expected.list_mut().iter_mut().zip(&answer.fields) {
             *place = *field;
         }

@@ -191,6 +191,34 @@ fn previews<P: Policy>(cases: &mut Cases, policy: &str) {
     cases.same(&name("a full counter"), one_preview::<P>(u32::MAX, 3, 9, 2), (Err(12), vec![7, 7]));
 }
 
+/// The layer that a "no" names: the smallest of one, of several in a row and of two apart; the count comes
+/// first, and 11 before it.
+fn lowest_layer(cases: &mut Cases) {
+    let ask = |k, a, last: u32, set: &[u32]| {
+        let trace: Vec<u32> = (1..=last).collect();
+        let run = layers::run(k, a, &trace).expect("k and a are sound");
+        let (mut pages, mut numbers) = ([0; 9], [0; 9]);
+        layers::write_table(&run.layers, &mut pages, &mut numbers);
+        layers::possible(&run.record, &pages, &numbers, set)
+    };
+    cases.same("{1}, {2}, {3}: 7 8 9", ask(3, 1, 3, &[7, 8, 9]), Ok(Possible::BreaksAt(0)));
+    cases.same("8 3 7", ask(3, 1, 3, &[8, 3, 7]), Ok(Possible::BreaksAt(0)));
+    cases.same("7 8", ask(3, 1, 3, &[7, 8]), Ok(Possible::CountDiffers));
+    cases.same("7 8 9 10", ask(3, 1, 3, &[7, 8, 9, 10]), Ok(Possible::CountDiffers));
+    cases.same("7 8 7", ask(3, 1, 3, &[7, 8, 7]), Err(11));
+    cases.same("3 1 2", ask(3, 1, 3, &[3, 1, 2]), Ok(Possible::Yes));
+    cases.same("{1}, {2, 3, 4}, {5}: 2 3 9", ask(4, 2, 5, &[2, 3, 9]), Ok(Possible::BreaksAt(0)));
+    cases.same("2 3 4", ask(4, 2, 5, &[2, 3, 4]), Ok(Possible::BreaksAt(2)));
+    cases.same(
+        "{1, 2, 3, 4}, {5}, {6}, {7}: 1 2 3 4",
+        ask(4, 3, 7, &[1, 2, 3, 4]),
+        Ok(Possible::BreaksAt(1)),
+    );
+    cases.same("0 5 6 7", ask(4, 3, 7, &[0, 5, 6, 7]), Ok(Possible::BreaksAt(0)));
+    cases.same("no layers, no page", ask(3, 1, 0, &[]), Ok(Possible::Yes));
+    cases.same("no layers, 7", ask(3, 1, 0, &[7]), Ok(Possible::CountDiffers));
+}
+
 /// Which layer rule applied, and the counts of the three.
 fn layer_rules(cases: &mut Cases) {
     let served = |k, a, trace: &[u32]| {
@@ -312,6 +340,7 @@ fn main() {
     previews::<Lru>(&mut cases, "LRU");
     previews::<Fifo>(&mut cases, "oldest load");
     layer_rules(&mut cases);
+    lowest_layer(&mut cases);
     runs(&mut cases);
     run_records(&mut cases);
     run_limits(&mut cases);

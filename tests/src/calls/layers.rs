@@ -90,10 +90,20 @@ const YES: u64 = 1;
 const COUNT_DIFFERS: u64 = 2;
 const BREAKS_AT: u64 = 3;
 
+const AT_ONE: &str = "breaks at one layer";
+const AT_SEVERAL: &str = "breaks at several";
+
+impl PossibleSet {
+    /// The answer that names layer i, on a set that breaks at so many layers.
+    pub fn breaks_at(i: u32, layers: usize) -> Answer {
+        Answer::told(if layers == 1 { AT_ONE } else { AT_SEVERAL }, &[BREAKS_AT, u64::from(i)])
+    }
+}
+
 impl Call for PossibleSet {
     const NAME: &'static str = "layers_possible";
     const REFUSALS: &'static [Refusal] = &[1, 2, 8, 9, 11];
-    const KINDS: &'static [&'static str] = &["yes", "count differs", "breaks"];
+    const KINDS: &'static [&'static str] = &["yes", "count differs", AT_ONE, AT_SEVERAL];
 
     fn expected(&mut self) -> Answer {
         let State { record, pages, numbers } = &self.state;
@@ -101,23 +111,16 @@ impl Call for PossibleSet {
             Err(refusal) => Answer::refused_case(refusal, 2),
             Ok(Possible::Yes) => Answer::told("yes", &[YES, 0]),
             Ok(Possible::CountDiffers) => Answer::told("count differs", &[COUNT_DIFFERS, 0]),
-            Ok(Possible::BreaksAt(i)) => Answer::told("breaks", &[BREAKS_AT, u64::from(i)]),
+            Ok(Possible::BreaksAt(i)) => {
+                let layers = layers::times_broken(record, pages.list(), numbers.list(), &self.set);
+                PossibleSet::breaks_at(i, layers.unwrap_or(0))
+            }
         }
     }
 
     fn exported(&mut self, out: &mut [u64]) {
         let State { record, pages, numbers } = &self.state;
         exports::layers_possible(record, pages.list(), numbers.list(), &self.set, out);
-    }
-
-    /// The layer of a "no" is free, as long as the rule breaks at it.
-    fn settle(&self, answer: &mut Answer, given: &[u64]) {
-        let State { record, pages, numbers } = &self.state;
-        if let ([BREAKS_AT, layer], Some(&i)) = (&mut answer.fields[..], given.get(1)) {
-            if layers::may_name(record, pages.list(), numbers.list(), &self.set, i) {
-                *layer = i;
-            }
-        }
     }
 }
 

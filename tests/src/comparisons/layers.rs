@@ -4,6 +4,7 @@ use super::{all_met, break_state, due, SOUND};
 use crate::calls::layers::{PossibleSet, Request, Revealed, State};
 use crate::calls::{Lent, Reached};
 use crate::model::layers::Record;
+use crate::report::differs;
 use crate::rng::Rng;
 use crate::states::layers::{all_counters, all_small, drawn, wide, Draft, FAULTS};
 use crate::states::{border_sizes, end_page};
@@ -139,6 +140,49 @@ fn all_sets(reached: &mut Reached, rng: &mut Rng) {
     }
 }
 
+/// The pages of layer `number` below.
+fn paired(number: u32, which: u32) -> u32 {
+    2 * number + which
+}
+
+/// k layers, of which each but the last has two pages. Page 0 and the largest page are in none.
+fn paired_layers(k: u32) -> State {
+    let record = Record { k, a: 1, requests: 3 * k, evictions: k, s: k, appends: k, joins: k, lifts: k };
+    let row = |number: u32, which| (number, paired(number, which));
+    let rows = (1..=k).flat_map(|number| (0..=u32::from(number < k)).map(move |which| row(number, which)));
+    Draft { record, rows: rows.collect(), spare: 1, short: [0, 0], page: 0 }.state()
+}
+
+/// A page of each of these layers but `left`, and one page more, of layer i or, for i = 0, of none. So these
+/// are k pages, of which L0 to Lj have j + 1 for each j from i to left - 1, and j for any other.
+fn set_broken_from(k: u32, i: u32, left: u32, rng: &mut Rng) -> Vec<u32> {
+    let more = if i > 0 { paired(i, 1) } else { rng.pick(&[0, u32::MAX]) };
+    let others = (1..=k).filter(|&number| number != left).map(|number| paired(number, 0));
+    let mut set: Vec<u32> = others.chain([more]).collect();
+    let first = rng.below(set.len());
+    set.rotate_left(first);
+    set
+}
+
+/// Sets that break at each layer first, there alone or at others above it too. How they are made says which
+/// layer is due.
+fn lowest_layers(reached: &mut Reached, rng: &mut Rng) {
+    for k in [1, 2, 3, 8, 256] {
+        let state = paired_layers(k);
+        let step = if k < 256 { 1 } else { 85 };
+        for i in 0..k {
+            for left in (i + 1..k).step_by(step).chain([k]) {
+                let call = PossibleSet { state: state.clone(), set: set_broken_from(k, i, left, rng) };
+                let (_, answer) = reached.compare(&call);
+                let named = PossibleSet::breaks_at(i, (left - i) as usize);
+                if answer != named {
+                    differs("the lowest layer", &[("call", format!("{:?}", call))], &named, &answer);
+                }
+            }
+        }
+    }
+}
+
 /// Wide tables and long sets, around each length at which the look for repeated pages changes its way.
 fn wide_tables(reached: &mut Reached, rng: &mut Rng) {
     for (around, times) in [(256, 1_000), (4_096, 100), (65_536, 12)] {
@@ -160,6 +204,7 @@ pub fn all(reached: &mut Reached, rng: &mut Rng) {
     faults(reached, rng);
     borders(reached, rng);
     all_sets(reached, rng);
+    lowest_layers(reached, rng);
     wide_tables(reached, rng);
     let mut turn = 0;
     all_small(|draft| {

@@ -192,23 +192,25 @@ pub fn revealed(record: &Record, pages: &[u32], numbers: &[u32]) -> Result<u32, 
     Ok(revealed_of(&check(record, pages, numbers)?))
 }
 
-/// How many pages of a set are in L0 to Li.
-fn from_below(layers: &Layers, set: &BTreeSet<u32>, i: usize) -> usize {
-    set.iter().filter(|page| !layers[i..].iter().any(|layer| layer.contains(page))).count()
+/// The number of the layer that a page is in, 0 for L0.
+fn number_of(layers: &Layers, page: u32) -> usize {
+    (1..).zip(layers).find(|(_, layer)| layer.contains(&page)).map_or(0, |(number, _)| number)
 }
 
-/// More than i pages of a set are in L0 to Li, for an i from 0 to s.
-fn breaks_at(layers: &Layers, set: &BTreeSet<u32>, i: usize) -> bool {
-    i <= layers.len() && from_below(layers, set, i) > i
+/// Each i from 0 to s at which a set has more than i pages from L0 to Li, rising.
+fn broken_at(layers: &Layers, set: &BTreeSet<u32>) -> Vec<usize> {
+    let numbers: Vec<usize> = set.iter().map(|&page| number_of(layers, page)).collect();
+    let from_below = |i| numbers.iter().filter(|&&number| number <= i).count();
+    (0..=layers.len()).filter(|&i| from_below(i) > i).collect()
 }
 
-/// Document 01's possible set, with the smallest layer of a "no".
+/// Document 01's possible set; a "no" names the smallest layer at which the rule breaks, as Req 06 says.
 pub fn possible_of(layers: &Layers, set: &BTreeSet<u32>) -> Possible {
     if set.len() != layers.len() {
         return Possible::CountDiffers;
     }
-    match (0..=layers.len()).find(|&i| breaks_at(layers, set, i)) {
-        Some(i) => Possible::BreaksAt(i as u32),
+    match broken_at(layers, set).first() {
+        Some(&i) => Possible::BreaksAt(i as u32),
         None => Possible::Yes,
     }
 }
@@ -223,11 +225,10 @@ pub fn possible(record: &Record, pages: &[u32], numbers: &[u32], set: &[u32]) ->
     Ok(possible_of(&layers, &different))
 }
 
-/// Whether a "no" may name the layer i for a set that is not refused: document 01 leaves it open which.
-pub fn may_name(record: &Record, pages: &[u32], numbers: &[u32], set: &[u32], i: u64) -> bool {
-    let set: BTreeSet<u32> = set.iter().copied().collect();
-    let layers = check(record, pages, numbers);
-    usize::try_from(i).map_or(false, |i| layers.map_or(false, |layers| breaks_at(&layers, &set, i)))
+/// At how many layers a set breaks the rule.
+pub fn times_broken(record: &Record, pages: &[u32], numbers: &[u32], set: &[u32]) -> Result<usize, Refusal> {
+    let layers = check(record, pages, numbers)?;
+    Ok(broken_at(&layers, &set.iter().copied().collect()).len())
 }
 
 /// What a whole trace does, from the empty record and no layers; its bundles are the record's evictions.
