@@ -87,18 +87,18 @@ compares k a pos le small =
       possible-is-what-min-can-hold = λ places calls set once answer told.
           let x = layersAfterCalls calls (layersStart k a places) in
           let trace = layersTrace calls (layersStart k a places) in
-          let yes = yes-exactly k a trace (x .run) (x .pages) (x .numbers) (list-stands k a pos le small places calls) set once answer told in
+          let yes = yes-exactly k a trace (x .run) (x .pages) (x .numbers) (list-stands k a pos le small places calls) set answer told once in
           let exact = possible-is-what-min-can-hold k a pos le trace set once in
           (λ y. exact .0 (yes .0 y), λ h. yes .1 (exact .1 h));
       no-other-set-is-held = λ places calls set once answer told later h.
           let x = layersAfterCalls calls (layersStart k a places) in
           let trace = layersTrace calls (layersStart k a places) in
-          let yes = yes-exactly k a trace (x .run) (x .pages) (x .numbers) (list-stands k a pos le small places calls) set once answer told in
+          let yes = yes-exactly k a trace (x .run) (x .pages) (x .numbers) (list-stands k a pos le small places calls) set answer told once in
           yes .1 (min-holds-possible-sets k a pos le trace set once later h);
-      no-names-the-lowest-layer = λ places calls set once answer told.
+      no-names-the-lowest-layer = λ places calls set answer told.
           let x = layersAfterCalls calls (layersStart k a places) in
           let trace = layersTrace calls (layersStart k a places) in
-          named-by-trace k a trace (x .run) (x .pages) (x .numbers) (list-stands k a pos le small places calls) set once answer told;
+          named-by-trace k a trace (x .run) (x .pages) (x .numbers) (list-stands k a pos le small places calls) set answer told;
       min-counts-the-best-count = λ trace e. rw e refl;
       min-reports-the-best-count = λ trace out e. rw e refl;
       min-writes-its-schedule = schedule-written k a;

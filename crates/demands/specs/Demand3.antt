@@ -62,13 +62,13 @@ pub record Compares (k a : ℕ) : Type 0 where
       → (answer : PossibleAnswer)
       → (let x = layersAfterCalls calls (layersStart k a places) in verdictOf answer ≡ verdict (x .run) (x .pages) (x .numbers) set)
       → (later : List ℕ) → HoldsJust (holds (minRule a) k (layersTrace calls (layersStart k a places)) later []) set → answer ≡ Yes
-  -- document 02, request 06: a "no" gives "the smallest i at which the set has more than i pages from L0 to Li", of the layers of the list's trace;
-  -- "'count differs' is still looked at before it", so the set has s pages
-  pub no-names-the-lowest-layer : (places : ℕ) (calls : List LayersCall) (set : List ℕ) → distinct set ≡ true
-      → (answer : PossibleAnswer)
+  -- document 02, request 06: a "no" gives "the smallest i at which the set has more than i pages from L0 to Li", of the layers of the list's trace. "'Count
+  -- differs' is still looked at before it", so the set has s pages, and a page that is named twice comes before both
+  pub no-names-the-lowest-layer : (places : ℕ) (calls : List LayersCall) (set : List ℕ) (answer : PossibleAnswer)
       → (let x = layersAfterCalls calls (layersStart k a places) in verdictOf answer ≡ verdict (x .run) (x .pages) (x .numbers) set)
       → (i : ℕ)
-      → (let L = layersAfter k a (layersTrace calls (layersStart k a places)) noLayers in (answer ≡ BrokenAt i) ↔ ((length set ≡ L .top) × BreaksFirstAt L set i))
+      → (let L = layersAfter k a (layersTrace calls (layersStart k a places)) noLayers in
+      (answer ≡ BrokenAt i) ↔ ((distinct set ≡ true) × (length set ≡ L .top) × BreaksFirstAt L set i))
   -- "for each trace that MIN accepts, the bundles it reports and the EVs it writes are each as many as its best count, and that number is
   -- the judge's answer to a file of the trace and just the schedule's bytes": to every file of it, with runs (document 02, request 03) or without
   pub min-counts-the-best-count : (trace : List ℕ) → traceRefusal k a trace 0 ≡ 0 → countsOf k a trace .bundles ≡ bestCount k a trace

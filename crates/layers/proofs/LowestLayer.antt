@@ -105,7 +105,7 @@ unfolding verdict
 verdict-judged run pages numbers set e = rw e
 
 -- a layer is named only where nothing is refused
-named-taken : (run : LayersRun) (pages numbers set : List ℕ) (i : ℕ) → brokenAt i ≡ verdict run pages numbers set → possibleRefusal run pages numbers set ≡ 0
+pub named-taken : (run : LayersRun) (pages numbers set : List ℕ) (i : ℕ) → brokenAt i ≡ verdict run pages numbers set → possibleRefusal run pages numbers set ≡ 0
 unfolding verdict
 named-taken run pages numbers set i told =
     cases (eqb (possibleRefusal run pages numbers set) 0)

@@ -31,7 +31,7 @@ use Rattle.layers.specs.declared.LayersRun.{LayersRun}
 use Rattle.layers.specs.declared.PossibleAnswer.{PossibleAnswer}
 use Rattle.layers.specs.declared.PossibleAnswer.the-variants.{Yes, BrokenAt}
 use Rattle.layers.proofs.Forming.{formed-table}
-use Rattle.layers.proofs.LowestLayer.{yes-is-possible, broken-is-first}
+use Rattle.layers.proofs.LowestLayer.{yes-is-possible, broken-is-first, named-taken}
 use Rattle.layers.proofs.WellFormed.{well-both}
 
 -- Rows along a trace
@@ -276,18 +276,31 @@ module _ (k a : ℕ) (trace : List ℕ) (run : LayersRun) (pages numbers : List 
       rw (never-ill-formed k a trace run pages numbers S (refuse (not (distinct set)) 11 0), d)
       (ap (λ L. judged L set) layers-agree)
 
-module _ (k a : ℕ) (trace : List ℕ) (run : LayersRun) (pages numbers : List ℕ) (S : Stands k a trace run pages numbers) (set : List ℕ) (d : distinct set ≡ true)
+module _ (k a : ℕ) (trace : List ℕ) (run : LayersRun) (pages numbers : List ℕ) (S : Stands k a trace run pages numbers) (set : List ℕ)
     (r : PossibleAnswer) (told : verdictOf r ≡ verdict run pages numbers set) where
-  judged-by-trace : verdictOf r ≡ judged (layersAfter k a trace noLayers) set
-  judged-by-trace = told ∙ verdict-agrees k a trace run pages numbers S set d
+  judged-by-trace : distinct set ≡ true → verdictOf r ≡ judged (layersAfter k a trace noLayers) set
+  judged-by-trace d = told ∙ verdict-agrees k a trace run pages numbers S set d
 
   -- an answer that keeps the promise of the question is Yes exactly if the set is possible by the layers of the trace
-  pub yes-exactly : (r ≡ Yes) ↔ (possible (layersAfter k a trace noLayers) set ≡ true)
-  yes-exactly = yes-is-possible (layersAfter k a trace noLayers) set r judged-by-trace
+  pub yes-exactly : distinct set ≡ true → (r ≡ Yes) ↔ (possible (layersAfter k a trace noLayers) set ≡ true)
+  yes-exactly d = yes-is-possible (layersAfter k a trace noLayers) set r (judged-by-trace d)
 
-  -- and names a layer exactly if the set has s pages and the rule breaks there and at no layer below
-  pub named-by-trace : (i : ℕ) → (r ≡ BrokenAt i) ↔ ((length set ≡ layersAfter k a trace noLayers .top) × BreaksFirstAt (layersAfter k a trace noLayers) set i)
-  named-by-trace = broken-is-first (layersAfter k a trace noLayers) set r judged-by-trace
+  -- a set that is not refused names no page twice
+  taken-once : possibleRefusal run pages numbers set ≡ 0 → distinct set ≡ true
+  taken-once e = unfold possibleRefusal in
+      cases (distinct set) (λ d. d)
+      (λ d. absurd (omega (arith, rw (never-ill-formed k a trace run pages numbers S (refuse (not (distinct set)) 11 0), d) at e)))
+
+  -- and it names a layer exactly if the set names no page twice and has s pages, and the rule breaks there and at no layer below
+  pub named-by-trace : (i : ℕ)
+      → (r ≡ BrokenAt i) ↔ ((distinct set ≡ true) × (length set ≡ layersAfter k a trace noLayers .top) × BreaksFirstAt (layersAfter k a trace noLayers) set i)
+  named-by-trace i = (
+    λ e.
+        let d = taken-once (named-taken run pages numbers set i (sym (ap verdictOf e) ∙ told)) in
+        let f = broken-is-first (layersAfter k a trace noLayers) set r (judged-by-trace d) i .0 e in
+        (d, f .0, f .1),
+    λ f. broken-is-first (layersAfter k a trace noLayers) set r (judged-by-trace (f .0)) i .1 (f .1, f .2),
+  )
 
 -- The call over a whole trace
 
