@@ -96,7 +96,8 @@ holdsUpTo L set (suc i) = leb (upTo L (suc i) set) (suc i) and holdsUpTo L set i
 abbrev pub possible : Layers → (set : List ℕ) → Bool
 possible L set = eqb (length set) (L .top) and holdsUpTo L set (L .top)
 
--- the smallest layer from 0 to i at which the rule breaks, where it does not hold at each of them (document 02, request 06)
+-- the smallest layer from 0 to i at which the rule breaks, for a set that breaks it at one of them (document 02, request 06): the last of them
+-- where the rule holds at all below it, else the smallest of those below
 abbrev pub lowestBroken : Layers → (set : List ℕ) → ℕ → ℕ
 lowestBroken L set zero = 0
 lowestBroken L set (suc i) = pick (holdsUpTo L set i) (suc i) (lowestBroken L set i)
