@@ -113,7 +113,7 @@ impl Call for PossibleSet {
             Ok(Possible::CountDiffers) => Answer::told("count differs", &[COUNT_DIFFERS, 0]),
             Ok(Possible::BreaksAt(i)) => {
                 let layers = layers::times_broken(record, pages.list(), numbers.list(), &self.set);
-                PossibleSet::breaks_at(i, layers.unwrap_or(0))
+                PossibleSet::breaks_at(i, layers.expect("the set is not refused"))
             }
         }
     }

@@ -140,7 +140,7 @@ fn all_sets(reached: &mut Reached, rng: &mut Rng) {
     }
 }
 
-/// The pages of layer `number` below.
+/// Page `which`, 0 or 1, of a layer of `paired_layers`.
 fn paired(number: u32, which: u32) -> u32 {
     2 * number + which
 }
