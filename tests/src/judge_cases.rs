@@ -39,7 +39,7 @@ pub type Case = (&'static str, (u32, u32), &'static [u32], Vec<Vec<u8>>, i64);
 fn accepted() -> Vec<Case> {
     const SHIFT: &[u32] = &[1, 2, 3, 4, 2, 5, 6, 1];
     vec![
-        ("MIN's schedule of the shift", (3, 2), SHIFT, vec![ka(3, 2), ev(3, &[3, 1]), ev(6, &[2, 4])], 2),
+        ("MIN's schedule of the shift", (3, 2), SHIFT, vec![ka(3, 2), ev(3, &[3, 1]), ev(6, &[4, 2])], 2),
         ("LRU's", (3, 2), SHIFT, vec![ka(3, 2), ev(3, &[1, 2]), ev(5, &[3, 4]), ev(7, &[2, 5])], 3),
         ("KA alone costs nothing", (3, 2), &[], vec![ka(3, 2)], 0),
         ("KA alone, room for all", (3, 2), &[1, 2, 3, 1], vec![ka(3, 2)], 0),

@@ -141,8 +141,8 @@ markedCases =
     -- 1. the four lines' numbers, of the shift's 54 bytes, and since document 02's request 01 the line `fifo`
     reports (traceBytes 3 2 (singles shift))
     (record { refusal = 0; k = 3; a = 2; requests = 8; min = counts 2 7; lru = counts 3 8; fifo = counts 3 8; layers = layersCounts 2 3 2 })
-    -- 2. MIN's bundles
-    ∷ minEvicts 3 2 shift (ev 3 (3 ∷ 1 ∷ []) ∷ ev 6 (2 ∷ 4 ∷ []) ∷ [])
+    -- 2. MIN's bundles, since document 02's request 07 with 4 before 2
+    ∷ minEvicts 3 2 shift (ev 3 (3 ∷ 1 ∷ []) ∷ ev 6 (4 ∷ 2 ∷ []) ∷ [])
     -- 3. LRU's
     ∷ evicts ByRequest 3 2 (take 3 shift) 4 (1 ∷ 2 ∷ [])
     ∷ evicts ByRequest 3 2 (take 5 shift) 5 (3 ∷ 4 ∷ [])
@@ -251,6 +251,16 @@ requestedCases =
     -- no layers: the set of no page is possible, and no layer is named
     ∷ asked 3 1 0 [] [] possibleSet
     ∷ asked 3 1 0 [] (7 ∷ []) countDiffers
+    -- 07. pages never requested again leave by age, not by number: the pages 9, 5 and 7 in the order of their requests
+    ∷ minEvicts 3 2 (9 ∷ 5 ∷ 7 ∷ 1 ∷ []) (ev 3 (9 ∷ 5 ∷ []) ∷ [])
+    ∷ minEvicts 2 2 (4294967295 ∷ 0 ∷ 1 ∷ []) (ev 2 (4294967295 ∷ 0 ∷ []) ∷ [])
+    -- by the last request, not by the load: 1 is loaded first and requested again behind 2 and 3
+    ∷ minEvicts 3 1 (1 ∷ 2 ∷ 3 ∷ 1 ∷ 4 ∷ 5 ∷ 6 ∷ []) (ev 4 (2 ∷ []) ∷ ev 5 (3 ∷ []) ∷ ev 6 (1 ∷ []) ∷ [])
+    -- nor by an earlier request: 1 leaves, comes back, and is then younger than 3
+    ∷ minEvicts 2 2 (1 ∷ 2 ∷ 3 ∷ 1 ∷ 4 ∷ 5 ∷ []) (ev 2 (2 ∷ 1 ∷ []) ∷ ev 4 (3 ∷ 1 ∷ []) ∷ [])
+    -- and before the pages that are requested again, of which the farthest goes first: 7 and 8 before 2, and 2 before 1
+    ∷ minEvicts 4 3 (7 ∷ 1 ∷ 8 ∷ 2 ∷ 3 ∷ 1 ∷ 2 ∷ []) (ev 4 (7 ∷ 8 ∷ 2 ∷ []) ∷ [])
+    ∷ minEvicts 4 4 (7 ∷ 1 ∷ 8 ∷ 2 ∷ 3 ∷ 1 ∷ 2 ∷ []) (ev 4 (7 ∷ 8 ∷ 2 ∷ 1 ∷ []) ∷ [])
     ∷ []
 
 abbrev pub allRight : List Row → Bool

@@ -48,7 +48,7 @@ runs k a entries behind schedule answer = record { trace = traceBytes k a entrie
 abbrev table : List Row
 table =
     -- MIN's schedule, and its KA alone
-    shift (ev 3 (3 ∷ 1 ∷ []) ∷ ev 6 (2 ∷ 4 ∷ []) ∷ []) [] (pos 2)
+    shift (ev 3 (3 ∷ 1 ∷ []) ∷ ev 6 (4 ∷ 2 ∷ []) ∷ []) [] (pos 2)
     ∷ shift [] [] (negsuc 6)
     -- KA: 1, 2, and 6 where it differs
     ∷ record { trace = kaBytes 0 0; schedule = []; answer = negsuc 0 }

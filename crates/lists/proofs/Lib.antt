@@ -2,4 +2,5 @@ pub mod Choice
 pub mod Pages
 pub mod Leaves
 pub mod Sorting
+pub mod Stable
 pub mod Parts

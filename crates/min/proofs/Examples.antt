@@ -12,12 +12,12 @@ use Rattle.paging.specs.Refusals.{sizesRefusal, traceRefusal}
 use Rattle.paging.specs.Same.{samePages, every, shift}
 use Rattle.min.specs.Calls.{minSchedule, bytesRefusal, scheduleRefusal}
 
--- KA 3 2; EV at 3 of 3, 1; EV at 6 of 2, 4
+-- KA 3 2; EV at 3 of 3, 1; EV at 6 of 4, 2
 shiftBytes : List ℕ
 shiftBytes =
     75 ∷ 65 ∷ 3 ∷ 0 ∷ 2 ∷ 0
     ∷ 69 ∷ 86 ∷ 3 ∷ 0 ∷ 0 ∷ 0 ∷ 2 ∷ 0 ∷ 3 ∷ 0 ∷ 0 ∷ 0 ∷ 1 ∷ 0 ∷ 0 ∷ 0
-    ∷ 69 ∷ 86 ∷ 6 ∷ 0 ∷ 0 ∷ 0 ∷ 2 ∷ 0 ∷ 2 ∷ 0 ∷ 0 ∷ 0 ∷ 4 ∷ 0 ∷ 0 ∷ 0
+    ∷ 69 ∷ 86 ∷ 6 ∷ 0 ∷ 0 ∷ 0 ∷ 2 ∷ 0 ∷ 4 ∷ 0 ∷ 0 ∷ 0 ∷ 2 ∷ 0 ∷ 0 ∷ 0
     ∷ []
 
 examples : List Bool

@@ -1,5 +1,5 @@
 -- The kept keys are the model's MIN: request by request the same kind, the same bundle, and again the sorted keys of the pages held.
-use Prim.Native.Nat.{ℕ, zero, suc, _-_, _<_}
+use Prim.Native.Nat.{ℕ, zero, suc, _*_, _-_, _<_}
 use native.Mathlib.Omega.{arith}
 use mathlib.Core.Bool.{true, false, false≢true}
 use mathlib.Core.List.{List, [], _∷_, _++_, map, append-nil}
@@ -9,14 +9,14 @@ use lib.ListN.{length, take, drop, getD, length-append, length-map}
 use lib.Seq.{getD-at, take-at}
 use borrow.Author.Tests.{ne-eqb, eq-eqb, eqb-true}
 use Rattle.lists.specs.Pages.{mem, without, eraseAll, count}
-use Rattle.lists.specs.Sorting.{sortBy}
+use Rattle.lists.specs.Sorting.{sortBy, insertBehind}
 use Rattle.lists.proofs.Choice.{cases, clash, bit-true, eqb-self, or-none}
 use Rattle.lists.proofs.Pages.{Once, count-some, without-absent, without-gone, mem-eraseAll, once-snoc, once-without, once-eraseAll}
 use Rattle.lists.proofs.Sorting.{length-sort}
 use Rattle.paging.specs.Min.{minRule, farther, bestCount, minLoads}
 use Rattle.paging.specs.Policy.{Kind, hit, isBundled, isLoad, kindOf, serve, kinds, bundles}
-use Rattle.keys.specs.Keys.{pageOf, key, lastOf, kindIn, stay, serveKeys, kindsOf, bundlesOf}
-use Rattle.keys.proofs.Order.{Pages, left-now, key-now, key-other, key-sort, page-of-keys, keys-other, keys-below, keys-eraseAll}
+use Rattle.keys.specs.Keys.{pageOf, lessNear, key, lastOf, kindIn, stay, serveKeys, kindsOf, bundlesOf}
+use Rattle.keys.proofs.Order.{Pages, left-now, near-now, less-near-now, key-other, key-sort, page-of-keys, keys-other, keys-below, keys-eraseAll}
 use Rattle.keys.proofs.Sorting.{insert, sort, sort-snoc, sort-eraseAll, Below, none, also, below-sort, below-take, below-eraseAll, below-without, below-snoc, below-at, insert-last, insert-before}
 
 -- the pages held and their keys, with `later` to come
@@ -50,12 +50,12 @@ held-last p later (also {x = q} {l = l} b g) o h =
     let f : q ≡ p = sym (eqb-true p q e) in
     let n = once-absent p l (rw f at o) in
     rw (e, f, without-absent p l n, ← keys-other p later l n)
-    (insert-last (below-sort ltb (keys-below p later g n))))
+    (insert-last (suc (length later)) (key (p ∷ later) p) (near-now p later) (below-sort lessNear (keys-below p later g n))))
     (λ e.
     let f : mem p l ≡ true = cases (mem p l) (λ m. m) (λ m. clash (mem p (q ∷ l)) h (or-none _ _ e m)) in
     rw e
     (ap (insert (key (p ∷ later) q)) (held-last p later g (λ r. omega (arith, o r)) f)
-    ∙ insert-before (key (p ∷ later) p) (key (p ∷ later) q) (sort (map (key later) (without p l))) (key-now p q later b e)
+    ∙ insert-before (key (p ∷ later) p) (key (p ∷ later) q) (sort (map (key later) (without p l))) (less-near-now p q later b e)
     ∙ ap (λ (x : ℕ). insert x (sort (map (key later) (without p l))) ++ (key (p ∷ later) p ∷ [])) (key-other p q later e)))
 
 absent-eraseAll : (p : ℕ) (ps l : List ℕ) → mem p l ≡ false → mem p (eraseAll ps l) ≡ false
@@ -70,7 +70,7 @@ module _ (k a p : ℕ) (later held keys : List ℕ) (page : p < 4294967296) (kep
   same-keys h = kept .order ∙ ap sort (keys-other p later held h)
 
   many : length keys ≡ length held
-  many = ap length (kept .order) ∙ length-sort ltb (map (key (p ∷ later)) held) ∙ length-map held (key (p ∷ later))
+  many = ap length (kept .order) ∙ length-sort lessNear (map (key (p ∷ later)) held) ∙ length-map held (key (p ∷ later))
 
   last-held : mem p held ≡ true → lastOf keys ≡ key (p ∷ later) p
   last-held h =
@@ -81,8 +81,8 @@ module _ (k a p : ℕ) (later held keys : List ℕ) (page : p < 4294967296) (kep
 
   last-absent : mem p held ≡ false → lastOf keys < key (p ∷ later) p
   last-absent h =
-      let b : Below (key (p ∷ later) p) keys = rw (kept .order) (below-sort ltb (keys-below p later (kept .pages) h)) in
-      below-at (length keys - 1) (omega (arith, left-now p later)) b
+      let b : Below (suc (length later) * 4294967296) keys = rw (kept .order) (below-sort lessNear (keys-below p later (kept .pages) h)) in
+      omega (arith, left-now p later, below-at (length keys - 1) (omega arith) b)
 
   pub kind-same : kindIn k (key (p ∷ later) p) keys ≡ kindOf k p held
   kind-same =
@@ -98,7 +98,7 @@ module _ (k a p : ℕ) (later held keys : List ℕ) (page : p < 4294967296) (kep
 
   -- after a request for p, where these pages stay: their keys, and p's own
   with-page : (stays : List ℕ) → Pages stays → Once stays → mem p stays ≡ false
-      → Kept later (stays ++ (p ∷ [])) (insert (key later p) (sort (map (key later) stays)))
+      → Kept later (stays ++ (p ∷ [])) (insertBehind lessNear (key later p) (sort (map (key later) stays)))
   with-page stays b o h =
       record {
         order = sym (ap sort (snoc-map (key later) stays p) ∙ sort-snoc (map (key later) stays) (key later p));

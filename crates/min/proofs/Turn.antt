@@ -11,11 +11,11 @@ use lib.Seq.{length-take-le, getD-take, drop-cons, drop-length}
 use Rattle.lists.specs.Pages.{bit, count}
 use Rattle.lists.proofs.Choice.{tests, cases}
 use Rattle.lists.proofs.Pages.{count-length}
-use Rattle.lists.proofs.Sorting.{length-insert}
+use Rattle.lists.proofs.Sorting.{length-behind}
 use Rattle.paging.specs.Policy.{Kind, hit, load, bundled, isBundled, isLoad, kindNumber}
 use Rattle.next_use.specs.Left.{left}
 use Rattle.next_use.proofs.Chains.{lefts-at, length-lefts}
-use Rattle.keys.specs.Keys.{keyOf, key, lastOf, kindIn, serveKeys, kindsOf, bundleOf, bundlesOf, kindFrom, Room}
+use Rattle.keys.specs.Keys.{keyOf, lessNear, key, lastOf, kindIn, serveKeys, kindsOf, bundleOf, bundlesOf, kindFrom, Room}
 use Rattle.keys.proofs.Order.{left-now}
 use Rattle.min.specs.inner.Run.{PassReady, Standing, Counting}
 
@@ -50,9 +50,9 @@ served-fits : (k a x next : ℕ) (keys : List ℕ) → length keys ≤ k → 0 <
     → length (serveKeys (kindIn k x keys) a next keys) ≤ k
 served-fits k a x next keys h s f b =
     kind-cases (λ kind. length (serveKeys kind a next keys) ≤ k) k x keys
-    (λ d. omega (arith, length-insert ltb next (take (length keys - 1) keys), length-take (length keys - 1) keys, last-some x keys b d))
-    (λ d. omega (arith, length-insert ltb next keys))
-    (λ d. omega (arith, length-insert ltb next (drop a keys), length-drop a keys))
+    (λ d. omega (arith, length-behind lessNear next (take (length keys - 1) keys), length-take (length keys - 1) keys, last-some x keys b d))
+    (λ d. omega (arith, length-behind lessNear next keys))
+    (λ d. omega (arith, length-behind lessNear next (drop a keys), length-drop a keys))
 
 -- every request has its left
 pub lefts-long : (k a : ℕ) (trace lefts : List ℕ) → PassReady k a trace lefts → length trace ≤ length lefts

@@ -22,7 +22,7 @@ table : (k a : ℕ) → List ℕ → Tabled
 table k a trace = tabledAfter k a trace nothingYet
 
 minShift : List Entry
-minShift = ev 3 (3 ∷ 1 ∷ []) ∷ ev 6 (2 ∷ 4 ∷ []) ∷ []
+minShift = ev 3 (3 ∷ 1 ∷ []) ∷ ev 6 (4 ∷ 2 ∷ []) ∷ []
 
 lruShift : List Entry
 lruShift = ev 3 (1 ∷ 2 ∷ []) ∷ ev 5 (3 ∷ 4 ∷ []) ∷ ev 7 (2 ∷ 5 ∷ []) ∷ []
@@ -30,6 +30,10 @@ lruShift = ev 3 (1 ∷ 2 ∷ []) ∷ ev 5 (3 ∷ 4 ∷ []) ∷ ev 7 (2 ∷ 5 ∷
 -- LRU and oldest load differ here, at k 3 and a 1
 hitThenFull : List ℕ
 hitThenFull = 1 ∷ 2 ∷ 3 ∷ 1 ∷ 4 ∷ 1 ∷ []
+
+-- pages 1, 2 and 3 are loaded in this order and requested last in the order 2, 3, 1
+hitThenOthers : List ℕ
+hitThenOthers = 1 ∷ 2 ∷ 3 ∷ 1 ∷ 4 ∷ 5 ∷ 6 ∷ []
 
 -- the layers after its first seven requests
 seven : Layers
@@ -42,6 +46,13 @@ five = layersAfter 4 2 (1 ∷ 2 ∷ 3 ∷ 4 ∷ 5 ∷ []) noLayers
 examples : List Bool
 examples =
     sameEntries (bundles (minRule 2) 3 0 shift [] []) minShift
+    -- pages never requested again leave by age (request 07), not by number: 9 was requested before 5 and 7;
+    -- by the last request, not by the load: a hit makes page 1 the youngest;
+    -- and before every page that is requested again, of which the farthest goes first
+    ∷ sameEntries (bundles (minRule 2) 3 0 (9 ∷ 5 ∷ 7 ∷ 1 ∷ []) [] []) (ev 3 (9 ∷ 5 ∷ []) ∷ [])
+    ∷ sameEntries (bundles (minRule 1) 3 0 hitThenOthers [] []) (ev 4 (2 ∷ []) ∷ ev 5 (3 ∷ []) ∷ ev 6 (1 ∷ []) ∷ [])
+    ∷ sameEntries (bundles (minRule 3) 3 0 (1 ∷ 2 ∷ 3 ∷ 1 ∷ 4 ∷ []) [] []) (ev 4 (2 ∷ 3 ∷ 1 ∷ []) ∷ [])
+    ∷ sameEntries (bundles (minRule 4) 4 0 (7 ∷ 1 ∷ 8 ∷ 2 ∷ 3 ∷ 1 ∷ 2 ∷ []) [] []) (ev 4 (7 ∷ 8 ∷ 2 ∷ 1 ∷ []) ∷ [])
     ∷ eqb (bestCount 3 2 shift) 2
     ∷ eqb (minLoads 3 2 shift) 7
     ∷ sameEntries (bundles (lruRule 2) 3 0 shift [] []) lruShift
@@ -104,5 +115,5 @@ examples =
     ∷ []
 
 examples-hold : every examples ≡ true
-unfolding every examples seven five minShift lruShift hitThenFull table samePages sameEntries _and_ _or_ rowBefore farther
+unfolding every examples seven five minShift lruShift hitThenFull hitThenOthers table samePages sameEntries _and_ _or_ rowBefore farther
 examples-hold = refl

@@ -10,7 +10,7 @@ use Rattle.lists.specs.Choice.{pick}
 use Rattle.lists.specs.Pages.{mem, count, bit}
 use Rattle.lists.proofs.Choice.{cases, tests}
 use Rattle.paging.specs.Front.{frontRule}
-use Rattle.paging.specs.Policy.{Rule, Kind, hit, load, bundled, isBundled, kindOf, serveBy, holdsBy, kindsBy, serve, kinds, bundles}
+use Rattle.paging.specs.Policy.{Rule, Kind, hit, load, bundled, isBundled, kindOf, serveBy, holdsBy, kindsBy, bundlesBy, serve, kinds, bundles}
 use Rattle.paging.specs.Schedule.{Entry, ev, entriesCost}
 use Rattle.paging.specs.declared.Keeping.{Keeping}
 
@@ -32,6 +32,17 @@ module _ (keeping : Keeping) (rule : Rule) (k : ℕ) where
   kinds-append [] ys later held = refl
   kinds-append (x ∷ xs) ys later held =
       rw (append-assoc xs ys later) (ap (λ (l : List Kind). kindOf k x held ∷ l) (kinds-append xs ys later _))
+
+  pub bundles-append : (t : ℕ) (xs ys later held : List ℕ)
+      → bundlesBy keeping rule k t (xs ++ ys) later held
+      ≡ bundlesBy keeping rule k t xs (ys ++ later) held
+      ++ bundlesBy keeping rule k (t + length xs) ys later (holdsBy keeping rule k xs (ys ++ later) held)
+  bundles-append t [] ys later held =
+      let e : t ≡ t + 0 = omega arith in ap (λ (n : ℕ). bundlesBy keeping rule k n ys later held) e
+  bundles-append t (x ∷ xs) ys later held =
+      let e : suc t + length xs ≡ t + suc (length xs) = omega arith in
+      rw (append-assoc xs ys later, bundles-append (suc t) xs ys later (serveBy keeping rule k x (xs ++ (ys ++ later)) held), e)
+      (cases (isBundled (kindOf k x held)) (λ b. rw b) (λ b. rw b))
 
 cost-kind : (x : Kind) (t : ℕ) (b : List ℕ) (rest : List Entry)
     → entriesCost (pick (isBundled x) (ev t b ∷ rest) rest) ≡ bit (isBundled x) + entriesCost rest

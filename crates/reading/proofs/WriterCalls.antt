@@ -139,7 +139,7 @@ written-schedule-reads-back k a entries out all =
 
 -- the calls that write the schedule of the eight-request shift are accepted with 38 lent bytes, and not with 37
 shiftCalls : List WriterCall
-shiftCalls = scheduleCalls 3 2 (ev 3 (3 ∷ 1 ∷ []) ∷ ev 6 (2 ∷ 4 ∷ []) ∷ [])
+shiftCalls = scheduleCalls 3 2 (ev 3 (3 ∷ 1 ∷ []) ∷ ev 6 (4 ∷ 2 ∷ []) ∷ [])
 
 shift-needs-38 : (allAccepted shiftCalls (writerStart (replicate 38 0)) ≡ true) × (allAccepted shiftCalls (writerStart (replicate 37 0)) ≡ false)
 unfolding shiftCalls _and_ _or_ sizesRefusal roomRefusal pagesRefused kaRefusal evRefusal

@@ -16,13 +16,17 @@ use Rattle.paging.specs.Schedule.{Entry, Turn, afterTurn, turnLegal, legal, cos
 use Rattle.paging.proofs.Runs.{bundles-cost}
 use Rattle.theory.specs.Farthest.{Farthest}
 use Rattle.theory.specs.Loads.{fromL0}
-use Rattle.theory.proofs.Layers.{layers-count-min-bundles, layers-count-min-loads}
+use Rattle.theory.proofs.Layers.{kinds-are-rules, layers-count-min-bundles, layers-count-min-loads}
 use Rattle.theory.proofs.Optimal.{farthest-is-optimal}
 use Rattle.theory.proofs.Orders.{minRule-is-farthest}
 use Rattle.theory.proofs.Schedules.{cost-of-entries, bundles-serve}
 
 module _ (k a : ℕ) (pos : 1 ≤ a) (le : a ≤ k) where
-  -- every rule that takes farthest pages makes as many bundles and loads
+  -- for every rule that takes farthest pages each request is the same, whatever follows; so it makes as many bundles and loads
+  pub farthest-kinds-agree : (rule : Rule) → Farthest a rule → (trace later : List ℕ) → kinds rule k trace later [] ≡ kinds (minRule a) k trace later []
+  farthest-kinds-agree rule F trace later =
+      kinds-are-rules k a pos le rule F trace later ∙ sym (kinds-are-rules k a pos le (minRule a) (minRule-is-farthest a) trace later)
+
   pub farthest-counts-agree : (rule : Rule) → Farthest a rule → (trace later : List ℕ)
       → count isBundled (kinds rule k trace later []) ≡ bestCount k a trace
   farthest-counts-agree rule F trace later =

@@ -3,7 +3,7 @@
 use Prim.Native.Nat.{ℕ, zero, suc, _+_, _≤_, _<_}
 use native.Mathlib.Omega.{arith}
 use mathlib.Core.Bool.{Bool, true, false}
-use mathlib.Core.List.{List, [], _∷_, _++_, map}
+use mathlib.Core.List.{List, [], _∷_, _++_, map, map-id}
 use mathlib.Core.Path.{_≡_, refl, sym, ap, subst, _∙_}
 use lib.Dec.{eqb, ltb}
 use lib.ListN.{length, getD}
@@ -14,7 +14,7 @@ use Rattle.lists.proofs.Pages.{count-map, mem-here, mem-there}
 use Rattle.paging.specs.Layers.{Layers, noLayers, LayerRule, append, join, lift, isJoin, layered, layersAfter, layerRules, joinCount}
 use Rattle.paging.specs.Policy.{Rule, Kind, hit, load, bundled, isBundled, isLoad, serve, holds, kinds}
 use Rattle.theory.specs.Farthest.{Farthest}
-use Rattle.theory.specs.Loads.{fromL0}
+use Rattle.theory.specs.Loads.{fromL0, kindOfRule}
 use Rattle.theory.proofs.Bundles.{not-absent}
 use Rattle.theory.proofs.LayerSteps.{layeredBy, Agree, start-agrees, Together, appends, joins, lifts, step-agrees}
 
@@ -25,8 +25,8 @@ module _ (k a : ℕ) (pos : 1 ≤ a) (le : a ≤ k) (rule : Rule) (F : Farthest 
   holds-agree (p ∷ ps) later L held A =
       holds-agree ps later (layered k a p L) (serve rule k p (ps ++ later) held) (step-agrees k a pos le rule F L p (ps ++ later) held A .0)
 
-  -- a test of kinds and a test of layer rules that go together give one list, request by request
-  run-together : (f : Kind → Bool) (g : LayerRule → Bool) → ((x : Kind) (r : LayerRule) → Together x r → f x ≡ g r)
+  -- what is told of kinds and of layer rules, and goes together, gives one list, request by request
+  run-together : {A : Type 0} (f : Kind → A) (g : LayerRule → A) → ((x : Kind) (r : LayerRule) → Together x r → f x ≡ g r)
       → (trace later : List ℕ) (L : Layers) (held : List ℕ) → Agree k L (trace ++ later) held
       → map f (kinds rule k trace later held) ≡ map g (layerRules k a trace L)
   run-together f g e [] later L held A = refl
@@ -38,6 +38,17 @@ module _ (k a : ℕ) (pos : 1 ≤ a) (le : a ≤ k) (rule : Rule) (F : Farthest 
   -- after the trace MIN holds pages as the layers allow, whatever follows
   pub layers-agree-with-min : (trace later : List ℕ) → Agree k (layersAfter k a trace noLayers) later (holds rule k trace later [])
   layers-agree-with-min trace later = holds-agree trace later noLayers [] (start-agrees k (trace ++ later))
+
+  -- each request is for MIN what its layer rule says, whatever follows
+  pub kinds-are-rules : (trace later : List ℕ) → kinds rule k trace later [] ≡ map kindOfRule (layerRules k a trace noLayers)
+  kinds-are-rules trace later =
+      sym (map-id (kinds rule k trace later []))
+      ∙ run-together (λ x. x) kindOfRule (λ x r t. kind-of-rule x r t) trace later noLayers [] (start-agrees k (trace ++ later))
+    where
+      kind-of-rule : (x : Kind) (r : LayerRule) → Together x r → x ≡ kindOfRule r
+      kind-of-rule load append appends = refl
+      kind-of-rule bundled join joins = refl
+      kind-of-rule hit lift lifts = refl
 
   -- MIN makes a bundle exactly where layers join, whatever follows
   pub bundles-are-joins : (trace later : List ℕ) → map isBundled (kinds rule k trace later []) ≡ map isJoin (layerRules k a trace noLayers)

@@ -5,6 +5,7 @@ pub mod Layers
 pub mod Schedules
 pub mod Optimal
 pub mod Best
+pub mod Age
 pub mod Possible
 pub mod Phases
 pub mod Factor

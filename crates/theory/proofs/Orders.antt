@@ -1,5 +1,5 @@
--- Rules that take farthest pages: the first a in an order "farther, then by a rank" do, for every rank. Document 01's order, in which the
--- lower page number goes first among pages that are never requested again, is one of them.
+-- Rules that take farthest pages: the first a in any order in which no farther page comes behind a nearer one. MIN's rule is one of them, and so
+-- are those that order pages which tie by a rank, whatever the rank.
 use Prim.Native.Nat.{ℕ, _+_, _≤_}
 use native.Mathlib.Omega.{arith}
 use mathlib.Core.Bool.{Bool, true, false}
@@ -13,7 +13,7 @@ use Rattle.lists.specs.Pages.{mem, eraseAll, count}
 use Rattle.lists.specs.Sorting.{sortBy}
 use Rattle.lists.proofs.Choice.{tests, cases, clash, or-l, eqb-self, eqb-sym}
 use Rattle.lists.proofs.Pages.{count-append, count-some, mem-of-count}
-use Rattle.lists.proofs.Sorting.{Order, count-sort, length-sort, sorted-sort, take-before, byThen, falling, falling-order, falling-ties, order-then, ties-then}
+use Rattle.lists.proofs.Sorting.{Order, count-sort, length-sort, sorted-sort, take-before, byThen, falling, falling-order, falling-ties, order-then}
 use Rattle.paging.specs.Min.{nextUse, farther, minRule}
 use Rattle.paging.specs.Schedule.{heldInTurn}
 use Rattle.theory.specs.Farthest.{Farthest}
@@ -81,20 +81,11 @@ farthest-by-rank a rank =
     (λ later held. fartherBy-order (λ p. nextUse p later) (rank later held))
     (λ later held. fartherBy-far (λ p. nextUse p later) (rank later held))
 
--- document 01's order: ties by page number
-pub minRule-is-farthest : (a : ℕ) → Farthest a (minRule a)
-unfolding farther
-minRule-is-farthest a = farthest-by-rank a (λ later held p. p)
-
+-- MIN's order: pages that tie stay as they are held
 pub farther-order : (later : List ℕ) → Order (farther later)
 unfolding farther
-farther-order later = fartherBy-order (λ p. nextUse p later) (λ p. p)
+farther-order later = record { one-way = λ p q e. omega tests; onward = λ p q r e f. omega tests }
 
--- of two pages one goes before the other
-pub farther-tie : (later : List ℕ) (p q : ℕ) → farther later p q ≡ false → farther later q p ≡ false → p ≡ q
+pub minRule-is-farthest : (a : ℕ) → Farthest a (minRule a)
 unfolding farther
-farther-tie later p q e f =
-    let u : ℕ → ℕ = λ r. nextUse r later in
-    let one : (x y : ℕ) → u x ≡ u y → ltb x y ≡ false → ltb y x ≡ false → x ≡ y = λ x y same g h. omega tests in
-    ties-then falling u (λ x y. ltb x y) falling-order falling-ties one p q
-    (sym (fartherBy-is u (λ r. r) p q) ∙ e) (sym (fartherBy-is u (λ r. r) q p) ∙ f)
+minRule-is-farthest a = first-are-farthest a (λ later held. farther later) (λ later held. farther-order later) (λ later held p q e. omega tests)

@@ -2,3 +2,4 @@ pub mod Farthest
 pub mod Loads
 pub mod Possible
 pub mod Factor
+pub mod Age

@@ -4,6 +4,8 @@
 //!   cheapest way to hold each set of pages after each request, one page that is only fetched ahead
 //!   included. MIN's count and the layers' count are that cost. LRU's count and oldest load's are each at most
 //!   k/a, rounded up, times MIN's and times the layers'; on some traces LRU's is the lower, on some the other.
+//!   Each of MIN's bundles takes the pages that leave first, in the order that Req 07 gives, read off the trace:
+//!   some of them by neither page number nor load.
 //! - On those of up to 5 requests, each set is answered possible exactly if MIN holds it for some
 //!   continuation without repeats; on those of up to 3, for some continuation of up to 4 requests as well.
 //!   One more request lifts its page exactly if MIN may hold it, else joins exactly if the least cost rises.
@@ -19,7 +21,7 @@ use bench_tests::model::queue::{self, Policy};
 use bench_tests::model::{judge, min};
 use bench_tests::report::differs;
 use std::cmp::Ordering;
-use std::collections::{BTreeSet, HashSet};
+use std::collections::{BTreeMap, BTreeSet, HashSet};
 
 /// Pages are 0 to 3; page 4 is never requested, but may be fetched ahead. A buffer is a set of bits.
 const PAGES: u32 = 4;
@@ -105,6 +107,53 @@ fn check_counts(k: u32, a: u32, trace: &[u32]) -> Ordering {
     let recent = within_factor::<Lru>("LRU", k, a, trace, [best, layered]);
     let oldest = within_factor::<Fifo>("oldest load", k, a, trace, [best, layered]);
     recent.cmp(&oldest)
+}
+
+/// Whether p leaves before q at request t: pages never requested again before the others and from the least
+/// recently requested on, the others from the farthest next request on.
+fn leaves_before(trace: &[u32], t: usize, p: u32, q: u32) -> bool {
+    let last = |page| trace[..t].iter().rposition(|&other| other == page);
+    let next = |page| trace[t + 1..].iter().position(|&other| other == page);
+    match (next(p), next(q)) {
+        (None, None) => last(p) < last(q),
+        (None, Some(_)) => true,
+        (Some(_), None) => false,
+        (Some(near), Some(nearer)) => near > nearer,
+    }
+}
+
+/// How many of MIN's bundles there were, and how many have two pages in a row that are never requested again and
+/// stand against their numbers, or against their loads.
+#[derive(Default)]
+struct Orders {
+    bundles: usize,
+    against_numbers: usize,
+    against_loads: usize,
+}
+
+/// Checks that each bundle has the pages that leave first, in their order.
+fn check_order(k: u32, a: u32, trace: &[u32], orders: &mut Orders) {
+    let mut bundles = min::run(k, a, trace).expect("k and a are sound").bundles.into_iter().peekable();
+    // The pages held, with the request at which each was loaded.
+    let mut held: BTreeMap<u32, usize> = BTreeMap::new();
+    for (t, &page) in trace.iter().enumerate() {
+        if let Some((_, bundle)) = bundles.next_if(|bundle| bundle.0 as usize == t) {
+            let mut due: Vec<u32> = held.keys().copied().collect();
+            due.sort_by(|&p, &q| leaves_before(trace, t, q, p).cmp(&leaves_before(trace, t, p, q)));
+            due.truncate(a as usize);
+            if bundle != due {
+                differs("MIN's bundle", &show(k, a, trace), &(t, due), &(t, bundle));
+            }
+            let never_again: Vec<u32> =
+                bundle.iter().copied().filter(|page| !trace[t..].contains(page)).collect();
+            orders.bundles += 1;
+            orders.against_numbers += usize::from(never_again.windows(2).any(|pair| pair[0] > pair[1]));
+            orders.against_loads +=
+                usize::from(never_again.windows(2).any(|pair| held[&pair[0]] > held[&pair[1]]));
+            held.retain(|other, _| !bundle.contains(other));
+        }
+        held.entry(page).or_insert(t);
+    }
 }
 
 /// Continuations without a repeated page, over pages 0 to 3: what MIN's rule asks of the future is
@@ -289,6 +338,18 @@ fn both_ways(recent_lower: usize, oldest_lower: usize) {
     );
 }
 
+/// Ends the program unless some bundles tell age from number, and some from load.
+fn all_orders(orders: &Orders) {
+    if orders.against_numbers == 0 || orders.against_loads == 0 {
+        let met = (orders.against_numbers, orders.against_loads);
+        differs("MIN's bundles", &[], &"some stand against numbers, some against loads", &met);
+    }
+    println!(
+        "all schedules: {} bundles of MIN in their order, {} against page numbers, {} against loads",
+        orders.bundles, orders.against_numbers, orders.against_loads
+    );
+}
+
 fn main() {
     let sizes: Vec<(u32, u32)> = (1..=4).flat_map(|k| (1..=k).map(move |a| (k, a))).collect();
     let mut continuations = Vec::new();
@@ -296,6 +357,7 @@ fn main() {
     let repeating = lists(PAGES, 4);
     let (mut counts, mut sets) = (0, 0);
     let (mut recent_lower, mut oldest_lower) = (0, 0);
+    let mut orders = Orders::default();
     for trace in lists(PAGES, 6) {
         for &(k, a) in &sizes {
             match check_counts(k, a, &trace) {
@@ -304,6 +366,7 @@ fn main() {
                 Ordering::Equal => {}
             }
             counts += 1;
+            check_order(k, a, &trace, &mut orders);
             if trace.len() <= 5 {
                 check_sets(k, a, &trace, &continuations);
                 sets += 1;
@@ -315,5 +378,6 @@ fn main() {
     }
     println!("all schedules: {} traces with k, a agree on counts, {} on possible sets", counts, sets);
     both_ways(recent_lower, oldest_lower);
+    all_orders(&orders);
     println!("all schedules: {} pairs of files judged as document 01's legal schedules", try_files());
 }

@@ -101,7 +101,7 @@ fn marked(cases: &mut Cases) {
         "trace 3 2 8\nmin 2 7\nlru 3 8\nfifo 3 8\nlayers 2 3 2\n".to_string(),
     );
     let best = min::run(3, 2, &SHIFT).map(|run| run.bundles);
-    cases.same("2", best, Ok(vec![(3, vec![3, 1]), (6, vec![2, 4])]));
+    cases.same("2", best, Ok(vec![(3, vec![3, 1]), (6, vec![4, 2])]));
     cases.same("3", evicted::<Lru>(3, 2, &SHIFT), vec![vec![1, 2], vec![3, 4], vec![2, 5]]);
     let layered = layers::run(3, 2, &SHIFT).map(|run| run.layers);
     cases.same("4", layered, Ok(sets(&[&[2, 4, 5], &[6], &[1]])));
@@ -219,6 +219,27 @@ fn lowest_layer(cases: &mut Cases) {
     cases.same("no layers, 7", ask(3, 1, 0, &[7]), Ok(Possible::CountDiffers));
 }
 
+/// The order of pages never requested again: by age, not by number; by the last request, not by the load nor by one
+/// before the page left and came back; and before the pages that are requested again.
+fn never_again(cases: &mut Cases) {
+    let bundles = |k, a, trace: &[u32]| min::run(k, a, trace).map(|run| run.bundles);
+    cases.same("by age", bundles(3, 2, &[9, 5, 7, 1]), Ok(vec![(3, vec![9, 5])]));
+    cases.same("the largest page", bundles(2, 2, &[u32::MAX, 0, 1]), Ok(vec![(2, vec![u32::MAX, 0])]));
+    cases.same(
+        "by the last request",
+        bundles(3, 1, &[1, 2, 3, 1, 4, 5, 6]),
+        Ok(vec![(4, vec![2]), (5, vec![3]), (6, vec![1])]),
+    );
+    cases.same(
+        "loaded again",
+        bundles(2, 2, &[1, 2, 3, 1, 4, 5]),
+        Ok(vec![(2, vec![2, 1]), (4, vec![3, 1])]),
+    );
+    let mixed = [7, 1, 8, 2, 3, 1, 2];
+    cases.same("before the others", bundles(4, 4, &mixed), Ok(vec![(4, vec![7, 8, 2, 1])]));
+    cases.same("before the others, a 3", bundles(4, 3, &mixed), Ok(vec![(4, vec![7, 8, 2])]));
+}
+
 /// Which layer rule applied, and the counts of the three.
 fn layer_rules(cases: &mut Cases) {
     let served = |k, a, trace: &[u32]| {
@@ -269,7 +290,7 @@ fn runs(cases: &mut Cases) {
         "trace 3 2 308\nmin 2 7\nlru 3 8\nfifo 3 8\nlayers 2 3 2\n".to_string(),
     );
     let best = files::read_trace(&parked, 308).and_then(|trace| min::run(3, 2, &trace.pages));
-    cases.same("its bundles", best.map(|run| run.bundles), Ok(vec![(3, vec![3, 1]), (305, vec![2, 4])]));
+    cases.same("its bundles", best.map(|run| run.bundles), Ok(vec![(3, vec![3, 1]), (305, vec![4, 2])]));
 }
 
 /// The reader and the writer of an RR, and which refusal comes first.
@@ -341,6 +362,7 @@ fn main() {
     previews::<Fifo>(&mut cases, "oldest load");
     layer_rules(&mut cases);
     lowest_layer(&mut cases);
+    never_again(&mut cases);
     runs(&mut cases);
     run_records(&mut cases);
     run_limits(&mut cases);

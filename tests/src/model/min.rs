@@ -23,12 +23,18 @@ fn next_requests(trace: &[u32]) -> Vec<Option<usize>> {
     next
 }
 
-/// Held pages with their next requests, ordered so that the first goes first: pages never
-/// requested again by number, then the others from the farthest on.
-fn order(held: &HashMap<u32, Option<usize>>) -> Vec<u32> {
-    let mut rows: Vec<(Option<usize>, u32)> = held.iter().map(|(&page, &next)| (next, page)).collect();
-    rows.sort_by(|x, y| match (x.0, y.0) {
-        (None, None) => x.1.cmp(&y.1),
+/// The numbers of a held page's last request and of its next one, if there is one.
+struct Requested {
+    last: usize,
+    next: Option<usize>,
+}
+
+/// Held pages, ordered so that the first goes first: pages never requested again from the least
+/// recently requested on, then the others from the farthest on.
+fn order(held: &HashMap<u32, Requested>) -> Vec<u32> {
+    let mut rows: Vec<(&Requested, u32)> = held.iter().map(|(&page, requested)| (requested, page)).collect();
+    rows.sort_by(|x, y| match (x.0.next, y.0.next) {
+        (None, None) => x.0.last.cmp(&y.0.last),
         (None, Some(_)) => std::cmp::Ordering::Less,
         (Some(_), None) => std::cmp::Ordering::Greater,
         (Some(s), Some(t)) => t.cmp(&s),
@@ -40,7 +46,7 @@ fn order(held: &HashMap<u32, Option<usize>>) -> Vec<u32> {
 pub fn run_until(k: u32, a: u32, trace: &[u32], stop: usize) -> Result<Run, Refusal> {
     check_trace(k, a, trace)?;
     let next = next_requests(trace);
-    let mut held: HashMap<u32, Option<usize>> = HashMap::new();
+    let mut held: HashMap<u32, Requested> = HashMap::new();
     let mut bundles = Vec::new();
     let mut loads = 0;
     for (t, &page) in trace.iter().enumerate().take(stop) {
@@ -54,7 +60,7 @@ pub fn run_until(k: u32, a: u32, trace: &[u32], stop: usize) -> Result<Run, Refu
                 bundles.push((t as u32, bundle));
             }
         }
-        held.insert(page, next[t]);
+        held.insert(page, Requested { last: t, next: next[t] });
     }
     Ok(Run { bundles, loads, held: held.keys().copied().collect() })
 }

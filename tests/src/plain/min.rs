@@ -15,13 +15,17 @@ pub fn lefts(trace: &[u32]) -> Vec<u32> {
 /// Bundles and loads of a whole trace; `each` receives every bundle.
 pub fn run(k: u32, a: u32, trace: &[u32], mut each: impl FnMut(u32, &[u32])) -> (u32, u32) {
     let lefts = lefts(trace);
-    let mut held: BTreeSet<(u32, u32)> = BTreeSet::new();
+    // Requests left from the next one on, the last request's number, the page.
+    let mut held: BTreeSet<(u32, u32, u32)> = BTreeSet::new();
     let (mut bundles, mut loads) = (0, 0);
     let mut gone = Vec::new();
     for (t, &page) in trace.iter().enumerate() {
-        // A held page that is requested now has the most requests left.
-        let now = ((trace.len() - t) as u32, page);
-        if !held.remove(&now) {
+        // A held page that is requested now has the most requests left, and no other has as many.
+        let now = (trace.len() - t) as u32;
+        let last = held.iter().next_back().copied();
+        if let Some(row) = last.filter(|row| row.0 == now) {
+            held.remove(&row);
+        } else {
             loads += 1;
             if held.len() == k as usize {
                 gone.clear();
@@ -29,12 +33,12 @@ pub fn run(k: u32, a: u32, trace: &[u32], mut each: impl FnMut(u32, &[u32])) -> 
                 for row in &gone {
                     held.remove(row);
                 }
-                let pages: Vec<u32> = gone.iter().map(|row| row.1).collect();
+                let pages: Vec<u32> = gone.iter().map(|row| row.2).collect();
                 each(t as u32, &pages);
                 bundles += 1;
             }
         }
-        held.insert((lefts[t], page));
+        held.insert((lefts[t], t as u32, page));
     }
     (bundles, loads)
 }
