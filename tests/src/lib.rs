@@ -12,6 +12,7 @@ pub mod damage;
 pub mod exported;
 pub mod judge_cases;
 pub mod model;
+pub mod orders;
 pub mod plain;
 pub mod report;
 pub mod rng;

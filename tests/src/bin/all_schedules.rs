@@ -19,9 +19,10 @@ use bench_tests::model::layers::{self, Layers, Possible, Rule};
 use bench_tests::model::lru::Lru;
 use bench_tests::model::queue::{self, Policy};
 use bench_tests::model::{judge, min};
+use bench_tests::orders::{against, Against};
 use bench_tests::report::differs;
 use std::cmp::Ordering;
-use std::collections::{BTreeMap, BTreeSet, HashSet};
+use std::collections::{BTreeSet, HashSet};
 
 /// Pages are 0 to 3; page 4 is never requested, but may be fetched ahead. A buffer is a set of bits.
 const PAGES: u32 = 4;
@@ -122,38 +123,27 @@ fn leaves_before(trace: &[u32], t: usize, p: u32, q: u32) -> bool {
     }
 }
 
-/// How many of MIN's bundles there were, and how many have two pages in a row that are never requested again and
-/// stand against their numbers, or against their loads.
-#[derive(Default)]
-struct Orders {
-    bundles: usize,
-    against_numbers: usize,
-    against_loads: usize,
-}
-
-/// Checks that each bundle has the pages that leave first, in their order.
-fn check_order(k: u32, a: u32, trace: &[u32], orders: &mut Orders) {
-    let mut bundles = min::run(k, a, trace).expect("k and a are sound").bundles.into_iter().peekable();
-    // The pages held, with the request at which each was loaded.
-    let mut held: BTreeMap<u32, usize> = BTreeMap::new();
+/// Checks that each bundle has the pages that leave first, in their order; gives how many bundles there are.
+fn check_order(k: u32, a: u32, trace: &[u32], found: &mut Against) -> usize {
+    let run = min::run(k, a, trace).expect("k and a are sound");
+    let mut bundles = run.bundles.iter().peekable();
+    let mut held = BTreeSet::new();
     for (t, &page) in trace.iter().enumerate() {
         if let Some((_, bundle)) = bundles.next_if(|bundle| bundle.0 as usize == t) {
-            let mut due: Vec<u32> = held.keys().copied().collect();
+            let mut due: Vec<u32> = held.iter().copied().collect();
             due.sort_by(|&p, &q| leaves_before(trace, t, q, p).cmp(&leaves_before(trace, t, p, q)));
             due.truncate(a as usize);
-            if bundle != due {
+            if *bundle != due {
                 differs("MIN's bundle", &show(k, a, trace), &(t, due), &(t, bundle));
             }
-            let never_again: Vec<u32> =
-                bundle.iter().copied().filter(|page| !trace[t..].contains(page)).collect();
-            orders.bundles += 1;
-            orders.against_numbers += usize::from(never_again.windows(2).any(|pair| pair[0] > pair[1]));
-            orders.against_loads +=
-                usize::from(never_again.windows(2).any(|pair| held[&pair[0]] > held[&pair[1]]));
-            held.retain(|other, _| !bundle.contains(other));
+            held.retain(|other| !bundle.contains(other));
         }
-        held.entry(page).or_insert(t);
+        held.insert(page);
     }
+    let Against { numbers, loads } = against(trace, &run.bundles);
+    found.numbers += numbers;
+    found.loads += loads;
+    run.bundles.len()
 }
 
 /// Continuations without a repeated page, over pages 0 to 3: what MIN's rule asks of the future is
@@ -339,14 +329,13 @@ fn both_ways(recent_lower: usize, oldest_lower: usize) {
 }
 
 /// Ends the program unless some bundles tell age from number, and some from load.
-fn all_orders(orders: &Orders) {
-    if orders.against_numbers == 0 || orders.against_loads == 0 {
-        let met = (orders.against_numbers, orders.against_loads);
-        differs("MIN's bundles", &[], &"some stand against numbers, some against loads", &met);
+fn all_orders(bundles: usize, Against { numbers, loads }: Against) {
+    if numbers == 0 || loads == 0 {
+        differs("MIN's bundles", &[], &"some stand against numbers, some against loads", &(numbers, loads));
     }
     println!(
         "all schedules: {} bundles of MIN in their order, {} against page numbers, {} against loads",
-        orders.bundles, orders.against_numbers, orders.against_loads
+        bundles, numbers, loads
     );
 }
 
@@ -357,7 +346,7 @@ fn main() {
     let repeating = lists(PAGES, 4);
     let (mut counts, mut sets) = (0, 0);
     let (mut recent_lower, mut oldest_lower) = (0, 0);
-    let mut orders = Orders::default();
+    let (mut bundles, mut found) = (0, Against::default());
     for trace in lists(PAGES, 6) {
         for &(k, a) in &sizes {
             match check_counts(k, a, &trace) {
@@ -366,7 +355,7 @@ fn main() {
                 Ordering::Equal => {}
             }
             counts += 1;
-            check_order(k, a, &trace, &mut orders);
+            bundles += check_order(k, a, &trace, &mut found);
             if trace.len() <= 5 {
                 check_sets(k, a, &trace, &continuations);
                 sets += 1;
@@ -378,6 +367,6 @@ fn main() {
     }
     println!("all schedules: {} traces with k, a agree on counts, {} on possible sets", counts, sets);
     both_ways(recent_lower, oldest_lower);
-    all_orders(&orders);
+    all_orders(bundles, found);
     println!("all schedules: {} pairs of files judged as document 01's legal schedules", try_files());
 }

@@ -3,6 +3,7 @@
 use super::{Answer, Call, Lent};
 use crate::exported::exports;
 use crate::model::{check_sizes, min, Refusal};
+use crate::orders::{against, Against};
 
 #[derive(Clone, Debug, PartialEq, Eq)]
 pub struct Sizes {
@@ -61,16 +62,29 @@ pub struct Schedule {
     pub bytes: Lent<u8>,
 }
 
+impl Schedule {
+    /// Whether an order by load, or else one by number, would have given another schedule.
+    fn kind(&self) -> &'static str {
+        let run = min::run(self.k, self.a, &self.trace).expect("a schedule is written");
+        match against(&self.trace, &run.bundles) {
+            Against { loads: 1.., .. } => Self::KINDS[2],
+            Against { numbers: 1.., .. } => Self::KINDS[1],
+            _ => Self::KINDS[0],
+        }
+    }
+}
+
 impl Call for Schedule {
     const NAME: &'static str = "min_schedule";
     const REFUSALS: &'static [Refusal] = &[1, 2, 3, 8];
-    const KINDS: &'static [&'static str] = &["schedule"];
+    const KINDS: &'static [&'static str] = &["schedule", "one against numbers", "one against loads"];
 
     fn expected(&mut self) -> Answer {
         match min::write(self.k, self.a, &self.trace, self.bytes.list_mut()) {
             Err(refusal) => Answer::refused(refusal, 4),
             Ok(written) => {
-                Answer::told("schedule", &[0, written.bundles, written.loads, written.length].map(u64::from))
+                let kind = self.kind();
+                Answer::told(kind, &[0, written.bundles, written.loads, written.length].map(u64::from))
             }
         }
     }
