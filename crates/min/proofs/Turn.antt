@@ -11,12 +11,13 @@ use lib.Seq.{length-take-le, getD-take, drop-cons, drop-length}
 use Rattle.lists.specs.Pages.{bit, count}
 use Rattle.lists.proofs.Choice.{tests, cases}
 use Rattle.lists.proofs.Pages.{count-length}
-use Rattle.lists.proofs.Sorting.{length-behind}
+use Rattle.lists.proofs.Stable.{length-behind}
 use Rattle.paging.specs.Policy.{Kind, hit, load, bundled, isBundled, isLoad, kindNumber}
 use Rattle.next_use.specs.Left.{left}
 use Rattle.next_use.proofs.Chains.{lefts-at, length-lefts}
-use Rattle.keys.specs.Keys.{keyOf, lessNear, key, lastOf, kindIn, serveKeys, kindsOf, bundleOf, bundlesOf, kindFrom, Room}
+use Rattle.keys.specs.Keys.{keyOf, lessNear, key, lastOf, kindIn, serveKeys, InOrder, kindsOf, bundleOf, bundlesOf, kindFrom, Room}
 use Rattle.keys.proofs.Order.{left-now}
+use Rattle.keys.proofs.Places.{served-in-order}
 use Rattle.min.specs.inner.Run.{PassReady, Standing, Counting}
 
 pub kind-from : (kind : Kind) → kindFrom (kindNumber kind) ≡ kind
@@ -69,6 +70,10 @@ module _ (k a t n present kind : ℕ) (trace lefts keys : List ℕ) (ready : Pas
       rw kind-is
       (room-for k a present n (length keys) (take n keys) held-many (at .held) (omega (arith, at .places, ready .sizes .k-high)) (ready .sizes .a-low) (ready .sizes .a-high) (omega arith))
 
+  -- what serving asks for
+  pub ready-to-serve : Room kind n a (length keys) × InOrder (take n keys)
+  ready-to-serve = (room, at .ordered)
+
   rest : drop t trace ≡ getD trace t 0 ∷ drop (suc t) trace
   rest = drop-cons trace t 0 more
 
@@ -105,6 +110,7 @@ module _ (k a t n present kind : ℕ) (trace lefts keys : List ℕ) (ready : Pas
           within = omega arith;
           held = omega (arith, ap length served, length-take-le m keys′ (omega arith));
           places = same ∙ at .places;
+          ordered = rw served (served-in-order (kindFrom kind) a next (take n keys) (at .ordered));
         }
 
     pub kinds-turn : kindsOf k a (drop t trace) (take n keys) ≡ kindFrom kind ∷ kindsOf k a (drop (t + 1) trace) (take m keys′)
@@ -129,7 +135,7 @@ module _ (k a t n present kind : ℕ) (trace lefts keys : List ℕ) (ready : Pas
 pub counting-starts : (k a : ℕ) (trace keys : List ℕ) → length keys ≡ 256 → Counting k a 0 0 0 0 trace keys
 counting-starts k a trace keys e =
     record {
-      stands = record { within = omega arith; held = omega arith; places = e };
+      stands = record { within = omega arith; held = omega arith; places = e; ordered = tt };
       bundled = omega arith;
       loaded = omega arith;
     }

@@ -143,7 +143,7 @@ pub writing-starts : (k a from : ℕ) (trace keys out : List ℕ) → length key
     → from + length (joined entryBytes (bundlesOf k a 0 trace [])) ≤ length out → Writing k a 0 0 from from trace keys out out
 writing-starts k a from trace keys out e h =
     record {
-      stands = record { within = omega arith; held = omega arith; places = e };
+      stands = record { within = omega arith; held = omega arith; places = e; ordered = tt };
       room = h;
       same = refl;
       whole = refl;

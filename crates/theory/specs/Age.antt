@@ -12,7 +12,7 @@ use Rattle.lists.specs.Places.{place}
 use Rattle.lists.specs.Sorting.{sortBy}
 use Rattle.paging.specs.Min.{nextUse, minRule, bestCount, minLoads}
 use Rattle.paging.specs.Policy.{Rule, isBundled, kindOf, serve, holds, kinds, bundles, bundleCount, loadCount}
-use Rattle.paging.specs.Schedule.{Entry, ev}
+use Rattle.paging.specs.Schedule.{ev}
 
 -- how many requests there are up to the last one of p; 0, if p was never requested
 abbrev pub lastUse : ℕ → (past : List ℕ) → ℕ

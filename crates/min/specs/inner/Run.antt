@@ -10,7 +10,7 @@ use Rattle.paging.specs.Refusals.{SizesRight, largestK, longestTrace}
 use Rattle.wire.specs.Numbers.{placed}
 use Rattle.records.specs.Bytes.{evLength, entryBytes, joined}
 use Rattle.next_use.specs.Left.{leftsOf}
-use Rattle.keys.specs.Keys.{kindFrom, kindsOf, bundleOf, bundlesOf}
+use Rattle.keys.specs.Keys.{InOrder, kindFrom, kindsOf, bundleOf, bundlesOf}
 
 -- sizes and a trace that are not refused, with a place for each request's left
 pub record Accepted (k a : ℕ) (trace lefts : List ℕ) : Type 0 where
@@ -29,6 +29,7 @@ pub record Standing (k t n : ℕ) (trace keys : List ℕ) : Type 0 where
   pub within : t ≤ length trace
   pub held : n ≤ k
   pub places : length keys ≡ largestK
+  pub ordered : InOrder (take n keys)
 
 -- before request t, with the bundles and loads so far: what is to come makes up the whole
 pub record Counting (k a t n bundles loads : ℕ) (trace keys : List ℕ) : Type 0 where

@@ -7,7 +7,7 @@ use Rattle.lists.proofs.Choice.{bit-le}
 use Rattle.paging.specs.Policy.{isBundled, isLoad}
 use Rattle.keys.specs.Keys.{kindFrom}
 use Rattle.min.specs.inner.Run.{Counting}
-use Rattle.min.proofs.Turn.{lefts-long, room, counting-turn, counting-starts, counting-ends, count-kinds}
+use Rattle.min.proofs.Turn.{lefts-long, ready-to-serve, counting-turn, counting-starts, counting-ends, count-kinds}
 use Rattle.min.proofs.run.pass.Statement.{statement}
 use Rattle.min.proofs.run.pass.Tie as tie
 
@@ -83,7 +83,7 @@ serve-requires c κs =
     let loop-test = c .before .before .before .before .before .before .before .loop-test in
     let key-of = c .before .before .before .before .before .key-of in
     let kind-of = c .before .kind-of in
-    room k a t n (key-of .result) (kind-of .result) trace lefts held pre (inv .stands) (loop-test .taken) (key-of .ensures) (kind-of .ensures)
+    ready-to-serve k a t n (key-of .result) (kind-of .result) trace lefts held pre (inv .stands) (loop-test .taken) (key-of .ensures) (kind-of .ensures)
 
 add-bundles : tie.Need-add-bundles Inv-loop μ-loop
 add-bundles c =

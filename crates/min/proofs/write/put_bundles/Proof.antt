@@ -4,7 +4,7 @@ use mathlib.Core.Path.{refl, sym}
 use lib.ListN.{length}
 use borrow.Author.Needs.{needs}
 use Rattle.min.specs.inner.Run.{Writing}
-use Rattle.min.proofs.Turn.{lefts-long, room}
+use Rattle.min.proofs.Turn.{lefts-long, ready-to-serve}
 use Rattle.min.proofs.Written.{writing-starts, writing-turn, writing-ends, bundle-room}
 use Rattle.min.proofs.write.put_bundles.Statement.{statement}
 use Rattle.min.proofs.write.put_bundles.Tie as tie
@@ -120,7 +120,7 @@ serve-requires c κs =
     let loop-test = c .before .before .before .before .before .before .before .before .before .before .before .before .loop-test in
     let key-of = c .before .before .before .before .before .before .before .before .before .before .key-of in
     let kind-of = c .before .before .before .before .before .before .kind-of in
-    room k a t n (key-of .result) (kind-of .result) trace lefts held (pre .0) (inv .stands) (loop-test .taken) (key-of .ensures) (kind-of .ensures)
+    ready-to-serve k a t n (key-of .result) (kind-of .result) trace lefts held (pre .0) (inv .stands) (loop-test .taken) (key-of .ensures) (kind-of .ensures)
 
 add-t : tie.Need-add-t Inv-loop μ-loop
 add-t c =
