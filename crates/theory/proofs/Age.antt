@@ -7,6 +7,7 @@ use mathlib.Core.List.{List, [], _∷_, _++_, append-assoc, append-nil}
 use mathlib.Core.Path.{_≡_, refl, sym, ap, _∙_}
 use lib.Dec.{eqb, ltb}
 use lib.ListN.{length, take}
+use lib.Seq.{take-length}
 use borrow.Author.Tests.{lt-ltb}
 use Rattle.lists.specs.Choice.{pick, _and_, _or_}
 use Rattle.lists.specs.Pages.{mem, eraseAll, without}
@@ -25,7 +26,7 @@ use Rattle.paging.proofs.Runs.{bundles-append}
 use Rattle.theory.specs.Age.{lastUse, leavesBefore, minHolds, minBundle, byNumberRule, LeavesByAge}
 use Rattle.theory.specs.Farthest.{Farthest}
 use Rattle.theory.proofs.Best.{farthest-kinds-agree, farthest-counts-agree, farthest-loads-agree}
-use Rattle.theory.proofs.Bundles.{by-kind, absent-after, not-absent}
+use Rattle.theory.proofs.Bundles.{by-kind, absent-after, not-absent, near-use}
 use Rattle.theory.proofs.Orders.{farthest-by-rank}
 
 -- The definitions computed: the shift of document 01 before its request 6, where page 6 is requested and only page 1 follows. Of the pages held, 4, 2 and 5,
@@ -110,17 +111,14 @@ module _ (rule : Rule) (k : ℕ) where
 
 -- The order of request 07
 
+again : (p : ℕ) (later : List ℕ) → mem p later ≡ true → nextUse p later < length later
+again p later m = near-use p (length later) later (rw (take-length later) m) .1
+
 never-again : (p : ℕ) (later : List ℕ) → mem p later ≡ false → nextUse p later ≡ length later
 unfolding _or_
 never-again p [] m = refl
 never-again p (q ∷ qs) m =
     cases (eqb p q) (λ e. clash _ (rw e) m) (λ e. rw (e, never-again p qs (rw e at m)))
-
-again : (p : ℕ) (later : List ℕ) → mem p later ≡ true → nextUse p later < length later
-unfolding _or_
-again p [] m = clash false m refl
-again p (q ∷ qs) m =
-    cases (eqb p q) (λ e. rw e (omega arith)) (λ e. let h = again p qs (rw e at m) in rw e (omega arith))
 
 module _ (past later : List ℕ) where
   -- it is an order: by whether the pages are requested again, and then by one number or the other

@@ -53,7 +53,7 @@ pub record LeavesByAge (k a : ℕ) : Type 0 where
       bundles (minRule a) k 0 (past ++ (present ∷ later)) [] []
       ≡ bundles (minRule a) k 0 past (present ∷ later) []
       ++ pick (isBundled (kindOf k present held)) (ev (length past) (minBundle k a past present later) ∷ behind) behind
-  -- of two pages held the one that goes before the other stands before it in every bundle that takes the other
+  -- of two pages held the one that goes before the other is in every bundle that takes the other, at an earlier place
   pub goes-first : (past : List ℕ) (present : ℕ) (later : List ℕ) (p q : ℕ) → leavesBefore past later p q ≡ true
       → mem p (minHolds k a past present later) ≡ true → mem q (minBundle k a past present later) ≡ true
       → place p (minBundle k a past present later) < place q (minBundle k a past present later)
