@@ -4,6 +4,7 @@
 //   writing        the writers of records
 use cases_rows::row::Numbers;
 use cases_rows::show;
+use editions::Converted;
 
 mod bytes;
 mod records_read;
@@ -19,6 +20,10 @@ const SCHEDULE: u16 = b's' as u16 + 256 * b'c' as u16;
 const COUNT: u16 = b'c' as u16 + 256 * b'o' as u16;
 
 const FARTHEST: u16 = b'f' as u16 + 256 * b'a' as u16;
+
+const OLD_EDITION: u16 = b'e' as u16 + 256 * b'o' as u16;
+
+const NEW_EDITION: u16 = b'e' as u16 + 256 * b'n' as u16;
 
 pub(crate) const KA: u16 = b'k' as u16 + 256 * b'a' as u16;
 
@@ -47,6 +52,8 @@ fn on_bytes(call: u16, n: Numbers, file: &mut [u8], trace: &[u8], pages: &[u32])
         SCHEDULE => records_read::schedule(file, n.0),
         COUNT => records_read::count(file, n.0),
         FARTHEST => farthest(n.0, n.1, pages, file),
+        OLD_EDITION => turned(editions::to_old(trace, file)),
+        NEW_EDITION => turned(editions::to_new(trace, file)),
         KA | RQ | RR | EV | PF => writing::record(call, n, file, pages),
         _ => show::text(b" no such call"),
     }
@@ -67,6 +74,15 @@ fn judged(answer: i64) {
         -7 => show::refused(7),
         -13 => show::refused(13),
         _ => show::text(b" another answer"),
+    }
+}
+
+// An edition of a trace, in bytes.
+fn turned(r: Converted) {
+    if r.refusal != 0 {
+        show::refused(r.refusal);
+    } else {
+        show::length(r.length);
     }
 }
 

@@ -1,4 +1,4 @@
--- The next request: inside a run it is the run's page, else that of the record at the offset.
+-- The record at an offset, and the next request: inside a run it is the run's page, else that of the record at the offset.
 use Prim.Native.Nat.{ℕ, zero, suc, _+_, _-_, _≤_, _<_}
 use native.Mathlib.Omega.{arith}
 use mathlib.Core.List.{List, [], _∷_}
@@ -11,7 +11,7 @@ use Rattle.reading.specs.Files.{File, requestsFrom, before}
 use Rattle.reading.specs.Reading.{Answer, refused, ended, sizes, request, bundle, fetch, readTrace}
 use Rattle.reading.proofs.Facts.{TraceFacts, trace-facts, trace-says, RequestAt, RqAt, RrAt}
 use Rattle.reading.proofs.Walk.{requests-refused, requests-ended, requests-request}
-use Rattle.cursor.specs.Cursor.{requestsLeft}
+use Rattle.cursor.specs.Cursor.{Begun, requestsLeft}
 use Rattle.cursor.specs.declared.Rest.{Rest}
 
 abbrev pub rest : (page times from : ℕ) → Rest
@@ -50,24 +50,23 @@ asked s at z h (request page times next) e f = record { page = page; times = tim
 asked s at z h (bundle t n from next) e f = absurd f
 asked s at z h (fetch t page next) e f = absurd f
 
-module _ (s : List ℕ) (left : Rest) (none : left .times ≤ 0) (z : 0 < left .from) (h : 0 < length (requestsLeft s left .held)) where
-  abbrev at : ℕ
-  at = left .from
-
+module _ (s : List ℕ) (at : ℕ) (z : 0 < at) (h : 0 < length (requestsFrom s at .held)) where
   here : Asked s at
-  here = asked s at z (rw (at-a-record s left none) at h) (readTrace s at) refl (trace-facts s at)
+  here = asked s at z h (readTrace s at) refl (trace-facts s at)
 
   fact : RequestAt s at (here .page) (here .times) (here .next)
   fact = trace-says s at (request (here .page) (here .times) (here .next)) (here .answers)
 
-  -- what the record holds is what is left, but for its first request
-  left-is : (page times next : ℕ) → here .page ≡ page → here .times ≡ times → here .next ≡ next
-      → (0 < next) × (requestsLeft s left ≡ before (page ∷ []) (requestsLeft s (rest page (times - 1) next)))
-  left-is page times next ep et en =
+  -- what the record holds is what is left
+  begun-is : (page times next : ℕ) → here .page ≡ page → here .times ≡ times → here .next ≡ next → times ≤ 65535
+      → Begun (rest page times next) × (requestsFrom s at ≡ requestsLeft s (rest page times next))
+  unfolding requestsLeft
+  begun-is page times next ep et en few =
       let f = fact .onward in
-      let r = at-a-record s left none ∙ requests-request s at (here .page) (here .times) (here .next) (here .answers)
-      ∙ run-less (here .page) (here .times) (here .next) s (fact .some) in
-      (omega arith, rw (← ep, ← et, ← en) r)
+      let some = fact .some in (
+        record { some = omega arith; few = few; started = omega arith },
+        rw (← ep, ← et, ← en) (requests-request s at (here .page) (here .times) (here .next) (here .answers)),
+      )
 
   -- the two records are told apart by the mark
   form : {A : Type 0} → (RqAt s at (here .page) (here .times) (here .next) → A) → (RrAt s at (here .page) (here .times) (here .next) → A) → A
@@ -83,17 +82,23 @@ module _ (s : List ℕ) (left : Rest) (none : left .times ≤ 0) (z : 0 < left .
     pub run-inside : at + 8 ≤ length s
     run-inside = run-here .inside
 
-    pub run-some : 0 < num16 (drop (at + 6) s)
-    run-some = rw (← run-here .times-is) (fact .some)
-
-    pub run-next : (page times : ℕ) → page ≡ num32 (drop (at + 2) s) → times ≡ num16 (drop (at + 6) s)
-        → (0 < at + 8) × (requestsLeft s left ≡ before (page ∷ []) (requestsLeft s (rest page (times - 1) (at + 8))))
-    run-next page times ep et = left-is page times (at + 8) (run-here .page-is ∙ sym ep) (run-here .times-is ∙ sym et) (run-here .behind)
+    pub run-begun : (page times : ℕ) → page ≡ num32 (drop (at + 2) s) → times ≡ num16 (drop (at + 6) s) → times ≤ 65535
+        → Begun (rest page times (at + 8)) × (requestsFrom s at ≡ requestsLeft s (rest page times (at + 8)))
+    run-begun page times ep et few = begun-is page times (at + 8) (run-here .page-is ∙ sym ep) (run-here .times-is ∙ sym et) (run-here .behind) few
 
   module _ (mark : num16 (drop at s) ≡ markRR → ⊥) where
     single-here : RqAt s at (here .page) (here .times) (here .next)
     single-here = form (λ q. q) (λ q. absurd (mark (q .mark)))
 
-    pub single-next : (page : ℕ) → page ≡ num32 (drop (at + 2) s)
-        → (0 < at + 6) × (requestsLeft s left ≡ before (page ∷ []) (requestsLeft s (rest page 0 (at + 6))))
-    single-next page ep = left-is page 1 (at + 6) (single-here .page-is ∙ sym ep) (single-here .once) (single-here .behind)
+    pub single-begun : (page : ℕ) → page ≡ num32 (drop (at + 2) s)
+        → Begun (rest page 1 (at + 6)) × (requestsFrom s at ≡ requestsLeft s (rest page 1 (at + 6)))
+    single-begun page ep = begun-is page 1 (at + 6) (single-here .page-is ∙ sym ep) (single-here .once) (single-here .behind) (omega arith)
+
+-- the first request of the record at the offset
+module _ (s : List ℕ) (left : Rest) (none : left .times ≤ 0) where
+  pub some-there : 0 < length (requestsLeft s left .held) → 0 < length (requestsFrom s (left .from) .held)
+  some-there h = rw (at-a-record s left none) at h
+
+  pub first-of-record : (found : Rest) → Begun found × (requestsFrom s (left .from) ≡ requestsLeft s found)
+      → (0 < found .from) × (requestsLeft s left ≡ before (found .page ∷ []) (requestsLeft s (rest (found .page) (found .times - 1) (found .from))))
+  first-of-record found f = (f .0 .started, at-a-record s left none ∙ f .1 ∙ in-a-run s found (f .0 .some))

@@ -2,6 +2,7 @@
 use Prim.Native.Nat.{ℕ}
 use mathlib.Core.List.{List, [], _∷_}
 use Rattle.traces.specs.declared.TraceCount.{TraceCount}
+use Rattle.editions.specs.declared.Converted.{Converted}
 use Rattle.queue.specs.declared.Reply.{Reply}
 use Rattle.queue.specs.declared.Totals.{Totals}
 use Rattle.min.specs.declared.Counts.{Counts}
@@ -19,6 +20,9 @@ queueTotalsFields r = r .refusal ∷ r .bundles ∷ r .loads ∷ []
 
 abbrev pub traceCountFields : TraceCount → List ℕ
 traceCountFields r = r .refusal ∷ r .k ∷ r .a ∷ r .requests ∷ []
+
+abbrev pub convertedFields : Converted → List ℕ
+convertedFields r = r .refusal ∷ r .length ∷ []
 
 abbrev pub countsFields : Counts → List ℕ
 countsFields r = r .refusal ∷ r .bundles ∷ r .loads ∷ []

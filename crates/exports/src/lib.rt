@@ -11,7 +11,9 @@
 //   layers_calls  the layers, a request, the questions and a trace
 //   reader_calls  what stands at an offset of a file
 //   trace_calls   a trace file read whole
+//   edition_calls a trace file turned into the old or the new edition
 //   writer_calls  a record into lent bytes
+mod edition_calls;
 mod fifo_calls;
 mod layers_calls;
 mod lru_calls;

@@ -6,7 +6,7 @@ use mathlib.Core.Bool.{false}
 use mathlib.Core.List.{List, [], _++_, map, append-nil, append-assoc}
 use mathlib.Core.Logic.{_⊎_, inl, inr}
 use mathlib.Core.Path.{_≡_, refl, sym, _∙_, ap}
-use lib.ListN.{length, take, drop, getD, set, length-append, length-take, length-drop, length-map, List·getD-map, take-append-drop, drop-of-length-le}
+use lib.ListN.{length, take, drop, getD, set, length-append, length-take, length-drop, length-map, List·getD-map, drop-of-length-le}
 use lib.Seq.{take-at, take-all, take-take, length-take-le, drop-drop, drop-length}
 use borrow.Author.Tests.{le-ltb, ne-eqb}
 use Rattle.lists.specs.Places.{over}
@@ -15,7 +15,7 @@ use Rattle.paging.specs.Min.{bestCount}
 use Rattle.paging.specs.Policy.{Kind, hit, load, bundled, isBundled, kindNumber}
 use Rattle.paging.specs.Schedule.{Entry}
 use Rattle.wire.specs.Numbers.{placed}
-use Rattle.wire.proofs.Numbers.{length-placed, placed-join}
+use Rattle.wire.proofs.Numbers.{length-placed, placed-none, placed-join}
 use Rattle.records.specs.Bytes.{kaBytes, evBytes, entryBytes, joined, evLength, scheduleBytes}
 use Rattle.records.specs.Writing.{putLength, putBytes, pagesRefused}
 use Rattle.records.proofs.Lengths.{length-evBytes}
@@ -64,11 +64,6 @@ put-bundle-is t a r pages held rest rest′ room e f g =
     let n : length pages ≡ a = ap length e ∙ length-map (take a held) pageOf ∙ length-take-le a held (room .held) in
     let p = put-ev t a pages rest n (room .some) (room .small) (room .room) in
     (f ∙ p .0, g ∙ p .1 ∙ ap (λ (l : List ℕ). placed rest 0 (evBytes t l)) e)
-
-pub placed-none : (out : List ℕ) (at : ℕ) → out ≡ placed out at []
-placed-none out at =
-    let e : at + 0 ≡ at = omega arith in
-    rw (append-nil (take at out), e) (sym (take-append-drop at out))
 
 -- the rest of the bytes, lent and come back
 pub back-placed : (out : List ℕ) (at : ℕ) (b : List ℕ)

@@ -8,7 +8,7 @@ singles-writable : (pages : List ℕ) → RunsWritable (singles pages)
 singles-writable [] = tt
 singles-writable (p ∷ pages) = (tt, singles-writable pages)
 
-singles-stand : (pages : List ℕ) → allRequestsOf (singles pages) ≡ pages
+pub singles-stand : (pages : List ℕ) → allRequestsOf (singles pages) ≡ pages
 singles-stand [] = refl
 singles-stand (p ∷ pages) = ap (λ (l : List ℕ). p ∷ l) (singles-stand pages)
 

@@ -3,9 +3,9 @@ use Prim.Native.Nat.{ℕ, zero, suc, _+_, _*_, _/_, _%_, _<_, _≤_}
 use native.Mathlib.Nat.{add-zero}
 use native.Mathlib.Numerals.{add-one, add-two, add-three}
 use native.Mathlib.Omega.{arith}
-use mathlib.Core.List.{List, [], _∷_, _++_, append-assoc}
+use mathlib.Core.List.{List, [], _∷_, _++_, append-assoc, append-nil}
 use mathlib.Core.Path.{_≡_, refl, sym, ap, _∙_}
-use lib.ListN.{length, getD, take, drop, set, length-append, length-take, length-drop}
+use lib.ListN.{length, getD, take, drop, set, length-append, length-take, length-drop, take-append-drop}
 use lib.Seq.{getD-drop, drop-drop, sets-eq, take-at, drop-at, take-add}
 use Rattle.wire.specs.Numbers.{Bytes, bytes16, bytes32, num16, num32, allBytes32, nums32, placed}
 
@@ -122,6 +122,11 @@ stored32 s at x y z w h = rw (add-one, add-two, add-three) (sets-eq (x ∷ y ∷
 
 pub length-placed : (s : List ℕ) (at : ℕ) (b : List ℕ) → at + length b ≤ length s → length (placed s at b) ≡ length s
 length-placed s at b h = simp (length-append, length-take, length-drop) (omega arith)
+
+pub placed-none : (s : List ℕ) (at : ℕ) → s ≡ placed s at []
+placed-none s at =
+    let e : at + 0 ≡ at = omega arith in
+    rw (append-nil (take at s), e) (sym (take-append-drop at s))
 
 -- bytes stored right behind bytes stored before are stored with them
 pub placed-join : (s : List ℕ) (at : ℕ) (b d : List ℕ) → at + length b ≤ length s

@@ -1,0 +1,9 @@
+pub mod LongestRuns
+pub mod RunRecords
+pub mod Lengths
+pub mod Taking
+pub mod Written
+pub mod CallLaws
+pub mod Programs
+pub mod Stands
+pub mod Examples

@@ -1,0 +1,128 @@
+-- The claims of `TwoEditions`: both editions are files of the trace, so they are read as the input is; and any other file of it is at least as long as the new one.
+use Prim.Native.Nat.{ℕ, suc, _+_, _≤_, _<_}
+use native.Mathlib.Omega.{arith}
+use mathlib.Core.Bool.{true}
+use mathlib.Core.List.{List, [], _∷_, _++_}
+use mathlib.Core.Path.{_≡_, refl, sym, ap, _∙_}
+use lib.Dec.{ltb}
+use lib.ListN.{length, take, drop, length-append}
+use lib.Seq.{take-at}
+use borrow.Author.Tests.{le-ltb}
+use Rattle.lists.proofs.Choice.{cases, tests}
+use Rattle.wire.specs.Numbers.{Bytes}
+use Rattle.wire.proofs.Numbers.{bytes-drop}
+use Rattle.paging.specs.Refusals.{SizesRight}
+use Rattle.records.specs.Bytes.{TraceEntry, rq, rr, rqBytes, rrBytes, kaBytes, traceEntryBytes, joined, TraceFileOf, RunsWritable}
+use Rattle.records.proofs.Files.{one-by-one}
+use Rattle.reading.specs.Files.{File, requestsFrom}
+use Rattle.reading.proofs.Exact.{trace-exact}
+use Rattle.reading.proofs.Walk.{requests-sizes}
+use Rattle.traces.specs.Traces.{TraceFile, whole, damaged, traceFile}
+use Rattle.traces.proofs.Whole.{WholeTrace, file-says, file-of-a-trace}
+use Rattle.editions.specs.Calls.{Edition, convertedOf, bytesAfter, output}
+use Rattle.editions.specs.Editions.{newRecords, oldBytes, newBytes}
+use Rattle.editions.specs.Longest.{RecordsFit}
+use Rattle.editions.specs.TwoEditions.{TwoEditions}
+use Rattle.editions.proofs.Lengths.{none-shorter, new-length, new-never-longer}
+use Rattle.editions.proofs.LongestRuns.{runs-make-the-trace, runs-are-longest, no-other-runs}
+use Rattle.editions.proofs.RunRecords.{new-records-stand, new-records-fit, fits-writable}
+
+-- ---- both are files of the trace
+
+abbrev Stands : Edition → Type 0
+Stands edition = (k a : ℕ) (pages : List ℕ) → TraceFileOf k a pages (edition k a pages)
+
+old-file : Stands oldBytes
+unfolding oldBytes
+old-file k a pages = one-by-one k a pages
+
+new-file : Stands newBytes
+unfolding newBytes
+new-file k a pages =
+    record { entries = newRecords pages; runs = fits-writable (newRecords pages) (new-records-fit pages); bytes = refl; requests = new-records-stand pages }
+
+-- ---- the output of a call
+
+-- with room for it, it is the edition
+output-is : (edition : Edition) (k a : ℕ) (pages out : List ℕ) → length (edition k a pages) ≤ length out → output edition (whole k a pages) out ≡ edition k a pages
+output-is edition k a pages out h =
+    let b = edition k a pages in
+    rw (le-ltb (length out) (length b) h) (take-at b (drop (length b) out) (length b) refl)
+
+module _ (limit : ℕ) (edition : Edition) (stands : Stands edition) where
+  reads-back : (input : List ℕ) (k a : ℕ) (pages : List ℕ) → traceFile limit input ≡ whole k a pages → traceFile limit (edition k a pages) ≡ whole k a pages
+  reads-back input k a pages e =
+      let w = file-says limit input (whole k a pages) e in
+      file-of-a-trace limit k a pages (edition k a pages) (w .right) (stands k a pages) (w .few)
+
+  -- what stands for a file, by what the file is read as
+  stands-for : (input out : List ℕ) (x : TraceFile) → traceFile limit input ≡ x → convertedOf edition x out .refusal ≡ 0 → traceFile limit (output edition x out) ≡ x
+  stands-for input out (damaged number) e h = absurd (file-says limit input (damaged number) e .0 h)
+  stands-for input out (whole k a pages) e h =
+      cases (ltb (length out) (length (edition k a pages)))
+      (λ short. absurd (no-eight (sym (ap-refusal short) ∙ h)))
+      (λ room. ap (traceFile limit) (output-is edition k a pages out (omega tests)) ∙ reads-back input k a pages e)
+    where
+      ap-refusal : ltb (length out) (length (edition k a pages)) ≡ true → convertedOf edition (whole k a pages) out .refusal ≡ 8
+      ap-refusal short = rw short
+
+      no-eight : _≡_ {A = ℕ} 8 0 → ⊥
+      no-eight q = omega arith
+
+-- ---- there and back
+
+old-new-old : (limit k a : ℕ) (pages old out other : List ℕ) → old ≡ oldBytes k a pages → traceFile limit old ≡ whole k a pages
+    → length old ≤ length out → length old ≤ length other → output oldBytes (traceFile limit (output newBytes (traceFile limit old) out)) other ≡ old
+old-new-old limit k a pages old out other is e room room′ =
+    let l = ap length is in
+    let short = new-never-longer k a pages in
+    let new : output newBytes (traceFile limit old) out ≡ newBytes k a pages
+    = ap (λ (x : TraceFile). output newBytes x out) e ∙ output-is newBytes k a pages out (omega arith) in
+    let back : traceFile limit (output newBytes (traceFile limit old) out) ≡ whole k a pages
+    = ap (traceFile limit) new ∙ reads-back limit newBytes new-file old k a pages e in
+    ap (λ (x : TraceFile). output oldBytes x other) back ∙ output-is oldBytes k a pages other (omega arith) ∙ sym is
+
+-- ---- no file is shorter
+
+-- records that are bytes have no more than 65,535 requests
+bytes-fit : (es : List TraceEntry) → RunsWritable es → Bytes (joined traceEntryBytes es) → RecordsFit es
+bytes-fit [] w b = tt
+bytes-fit (rq page ∷ es) w b = (tt, bytes-fit es (w .1) (bytes-drop (rqBytes page ++ joined traceEntryBytes es) 6 b))
+bytes-fit (rr page times ∷ es) w b =
+    let high = b 7 in
+    ((w .0, omega arith), bytes-fit es (w .1) (bytes-drop (rrBytes page times ++ joined traceEntryBytes es) 8 b))
+
+shorter-than-files : (k a : ℕ) (pages file : List ℕ) → Bytes file → TraceFileOf k a pages file → length (newBytes k a pages) ≤ length file
+shorter-than-files k a pages file b f =
+    let es = f .entries in
+    let bytes = rw (f .bytes) at b in
+    let fit = bytes-fit es (f .runs) (bytes-drop (kaBytes k a ++ joined traceEntryBytes es) 6 bytes) in
+    let l = ap length (f .bytes) in
+    let same = ap (λ (ps : List ℕ). length (joined traceEntryBytes (newRecords ps))) (f .requests) in
+    let n = new-length k a pages in
+    let m = none-shorter es fit in
+    omega arith
+
+new-is-shortest : (limit : ℕ) (file : List ℕ) (k a : ℕ) (pages : List ℕ) → Bytes file → traceFile limit file ≡ whole k a pages → length (newBytes k a pages) ≤ length file
+new-is-shortest limit file k a pages b e =
+    let w = file-says limit file (whole k a pages) e in
+    let read = requests-sizes file 0 k a 6 (w .starts) ∙ w .read in
+    let f = trace-exact file b k a 6 (w .starts) (ap (λ (x : File ℕ). x .damage) read) in
+    let held = ap (λ (x : File ℕ). x .held) read in
+    shorter-than-files k a pages file b (rw held at f)
+
+-- ---- all of it
+
+pub two-editions : (limit : ℕ) → TwoEditions limit
+two-editions limit =
+    record {
+      old-stands = λ input out h. stands-for limit oldBytes old-file input out (traceFile limit input) refl h;
+      new-stands = λ input out h. stands-for limit newBytes new-file input out (traceFile limit input) refl h;
+      old-new-old = old-new-old limit;
+      runs-make-the-trace = runs-make-the-trace;
+      runs-are-longest = runs-are-longest;
+      no-other-runs = no-other-runs;
+      new-records-fit = new-records-fit;
+      new-never-longer = new-never-longer;
+      new-is-shortest = new-is-shortest limit;
+    }
