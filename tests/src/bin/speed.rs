@@ -7,8 +7,9 @@
 use bench_tests::calls::queue::Exported;
 use bench_tests::exported::exports;
 use bench_tests::exported::judge::judge;
+use bench_tests::model::editions::new_edition;
 use bench_tests::model::fifo::Fifo;
-use bench_tests::model::files::{schedule_file, trace_file, trace_of, Entry};
+use bench_tests::model::files::{schedule_file, trace_file, Entry};
 use bench_tests::model::lru::Lru;
 use bench_tests::model::queue::Record;
 use bench_tests::model::{layers, BENCH_MAX, TRACE_MAX};
@@ -16,7 +17,7 @@ use bench_tests::plain;
 use bench_tests::rng::Rng;
 use bench_tests::schedules::legal;
 use bench_tests::timing::{opaque, Table, REPEATS};
-use bench_tests::traces::{in_runs, of_kind, parked, scattered, Kind, KINDS};
+use bench_tests::traces::{of_kind, parked, scattered, Kind, KINDS};
 use std::io::Write;
 use std::process::{Command, Stdio};
 
@@ -60,7 +61,7 @@ fn tug(a: u32, n: usize) -> Vec<u32> {
 fn two_editions(a: u32, pages: &[u32]) -> [(String, Vec<u8>); 2] {
     [
         (format!("a {}, as single records", a), trace_file(K, a, pages)),
-        (format!("a {}, as runs", a), trace_of(K, a, &in_runs(pages))),
+        (format!("a {}, as runs", a), new_edition(K, a, pages)),
     ]
 }
 
