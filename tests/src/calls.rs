@@ -1,6 +1,7 @@
 //! The calls of the static library `exports`, each beside the second implementation, and what was
 //! reached of them.
 
+pub mod editions;
 pub mod files;
 pub mod layers;
 pub mod min;

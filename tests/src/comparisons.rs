@@ -1,5 +1,6 @@
 //! The static library `exports` compared with the second implementation, call by call.
 
+pub mod editions;
 pub mod files;
 pub mod layers;
 pub mod queue;

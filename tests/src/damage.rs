@@ -1,5 +1,6 @@
-//! Damage to the bytes of a file.
+//! Damage to the bytes of a file, drawn, and what may stand at the end of one.
 
+use crate::judge_cases::{rq, rr};
 use crate::model::files::put_run;
 use crate::rng::Rng;
 
@@ -85,4 +86,23 @@ fn change_head(out: &mut [u8], rng: &mut Rng) {
         let at = rng.pick(&[2, 4]);
         out[at..at + 2].copy_from_slice(&value);
     }
+}
+
+/// What may stand behind requests that are as many as the limit, with what is due then.
+pub fn behind_the_limit() -> Vec<(Vec<u8>, u32)> {
+    let mut out = vec![
+        (vec![], 0),
+        (rr(5, 0), 13),
+        ([rr(5, 0), rq(5)].concat(), 13),
+        (rq(5), 3),
+        (rr(5, 1), 3),
+        (rr(5, 65_535), 3),
+        (b"XX".to_vec(), 4),
+        (b"KA".to_vec(), 4),
+        (b"EV".to_vec(), 4),
+        (b"R".to_vec(), 5),
+        (rq(5)[..5].to_vec(), 5),
+    ];
+    out.extend((2..8).map(|cut| (rr(5, 0)[..cut].to_vec(), 5)));
+    out
 }

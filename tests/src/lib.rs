@@ -2,7 +2,7 @@
 //! the test programs share. Nothing here is taken from the proved crates.
 //!
 //! `model` is the second implementation: slow where slow is plainer.
-//! `plain` has the versions without checks that the timings compare with.
+//! `plain` has the versions without proofs that the timings compare with.
 
 #[cfg(feature = "exports")]
 pub mod calls;
@@ -14,6 +14,7 @@ pub mod judge_cases;
 pub mod model;
 pub mod orders;
 pub mod plain;
+pub mod programs;
 pub mod report;
 pub mod rng;
 pub mod schedules;

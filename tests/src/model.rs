@@ -1,6 +1,8 @@
 //! Document 01's rules, Req 01's for oldest load first, Req 02's for what the layers answer and count by rule,
-//! and Req 03's for runs of one page: the limits, and a file for each part.
+//! Req 03's for runs of one page, and Req 08's for the two editions of a trace: the limits, and a file for
+//! each part.
 
+pub mod editions;
 pub mod fifo;
 pub mod files;
 pub mod judge;
@@ -13,10 +15,10 @@ pub mod queue;
 /// The largest k.
 pub const K_MAX: u32 = 256;
 
-/// The most requests that MIN and the judge take.
+/// The most requests that MIN, the judge and the library's calls between editions take.
 pub const TRACE_MAX: usize = 65_536;
 
-/// The most requests that `bench` takes.
+/// The most requests that the programs `bench`, `to_old` and `to_new` take.
 pub const BENCH_MAX: usize = 4_096;
 
 /// A refusal's number.

@@ -1,7 +1,9 @@
 //! Plain versions of the timed jobs: what one would write in Rust for speed without proofs, with no
-//! check of the state. The timings compare the proved code with these, and their answers as well.
+//! check of the state; only `editions` refuses, as its calls do. The timings compare the proved code with
+//! these, and their answers as well.
 
 pub mod bench;
+pub mod editions;
 pub mod fifo;
 pub mod judge;
 pub mod layers;

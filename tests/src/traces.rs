@@ -125,11 +125,6 @@ fn longest_run(page: u32, requests: usize) -> Asked {
     Asked::Rr { page, times: requests.min(65_535) as u16 }
 }
 
-/// The records of a trace with an RR for each page that is asked for twice or more in a row.
-pub fn in_runs(pages: &[u32]) -> Vec<Asked> {
-    records(pages, |page, left| if left == 1 { Asked::Rq { page } } else { longest_run(page, left) })
-}
-
 /// The bytes of a trace's file in drawn records: requests of a page in a row are cut anywhere into RQs and
 /// RRs, also of one request, also side by side, or are all one RR.
 pub fn edition(k: u32, a: u32, pages: &[u32], rng: &mut Rng) -> Vec<u8> {
@@ -140,6 +135,42 @@ pub fn edition(k: u32, a: u32, pages: &[u32], rng: &mut Rng) -> Vec<u8> {
         _ => longest_run(page, left),
     });
     trace_of(k, a, &drawn)
+}
+
+/// Files of exactly so many requests, an even number: single records of one page and of different ones, runs
+/// of one request, a run beside a request for its page and for another, two runs of one page, a drawn mix.
+pub fn exactly(requests: usize, rng: &mut Rng) -> Vec<Vec<u8>> {
+    let one = |page| Asked::Rq { page };
+    let different: Vec<Asked> = (0..requests as u32).map(one).collect();
+    let (most, half) = (longest_run(5, requests - 1), longest_run(5, requests / 2));
+    let named = [
+        vec![one(7); requests],
+        different,
+        vec![longest_run(7, 1); requests],
+        vec![most, one(5)],
+        vec![one(6), most],
+        vec![half, half],
+    ];
+    let mut files = named.map(|records| trace_of(3, 2, &records)).to_vec();
+    files.push(edition(3, 2, &any_parked(3, 2, requests, rng), rng));
+    files
+}
+
+/// Every way to write a trace in records: requests of one page in a row cut anywhere, a single one as RQ or
+/// as RR.
+pub fn every_edition(trace: &[u32]) -> Vec<Vec<Asked>> {
+    let page = match trace.first() {
+        None => return vec![vec![]],
+        Some(&page) => page,
+    };
+    let stretch = trace.iter().take_while(|&&other| other == page).count();
+    let runs = (1..=stretch).map(|times| Asked::Rr { page, times: times as u16 });
+    let mut out = Vec::new();
+    for first in runs.chain([Asked::Rq { page }]) {
+        let rests = every_edition(&trace[first.requests()..]);
+        out.extend(rests.into_iter().map(|rest| [&[first][..], &rest].concat()));
+    }
+    out
 }
 
 /// A sound pair k, a: small ones mostly, and the ends.

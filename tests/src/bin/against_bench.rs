@@ -3,14 +3,14 @@
 
 use bench_tests::damage::{damage, damaged};
 use bench_tests::judge_cases::{ev, ka, rq, rr};
+use bench_tests::model::editions::new_edition;
 use bench_tests::model::files::{trace_file, trace_of, Asked};
 use bench_tests::model::lines::lines;
 use bench_tests::model::BENCH_MAX;
+use bench_tests::programs::output;
 use bench_tests::report::{all_reached, differs, hex, tally_text};
 use bench_tests::rng::Rng;
-use bench_tests::traces::{any, any_parked, any_sizes, edition, in_runs, of_kind, parked, sizes, KINDS};
-use std::io::Write;
-use std::process::{Command, Stdio};
+use bench_tests::traces::{any, any_parked, any_sizes, edition, of_kind, parked, sizes, KINDS};
 
 struct Bench {
     program: String,
@@ -20,18 +20,12 @@ struct Bench {
 }
 
 impl Bench {
-    /// What the program prints for an input. It may end before it has read all of it.
-    fn output(&self, input: &[u8]) -> std::io::Result<String> {
-        let mut child = Command::new(&self.program).stdin(Stdio::piped()).stdout(Stdio::piped()).spawn()?;
-        if let Some(mut stdin) = child.stdin.take() {
-            match stdin.write_all(input) {
-                Err(error) if error.kind() != std::io::ErrorKind::BrokenPipe => return Err(error),
-                _ => {}
-            }
+    /// What the program prints for an input, as text.
+    fn text(&self, input: &[u8]) -> String {
+        match output(&self.program, input) {
+            Ok(printed) => String::from_utf8_lossy(&printed).into_owned(),
+            Err(error) => error.to_string(),
         }
-        let output = child.wait_with_output()?;
-        let text = String::from_utf8_lossy(&output.stdout).into_owned();
-        Ok(if output.status.code().is_some() { text } else { format!("{}({})", text, output.status) })
     }
 
     /// Compares on one input with the second implementation.
@@ -65,7 +59,7 @@ impl Bench {
 
     /// Compares with given lines.
     fn expect(&mut self, what: &str, input: &[u8], expected: &str) {
-        let got = self.output(input).unwrap_or_else(|error| error.to_string());
+        let got = self.text(input);
         if got != expected {
             differs("bench", &[("kind", what.to_string()), ("input", hex(input))], &expected, &got);
         }
@@ -188,7 +182,7 @@ fn runs_at_the_limit(bench: &mut Bench, rng: &mut Rng) {
 /// One trace in single records, in the longest runs and in drawn ones; and the last damaged.
 fn editions(bench: &mut Bench, what: &str, k: u32, a: u32, pages: &[u32], rng: &mut Rng) {
     let drawn = edition(k, a, pages, rng);
-    bench.same(what, &[trace_file(k, a, pages), trace_of(k, a, &in_runs(pages)), drawn.clone()]);
+    bench.same(what, &[trace_file(k, a, pages), new_edition(k, a, pages), drawn.clone()]);
     for pieces in 1..=2 {
         bench.check("runs, damaged", &damaged(&drawn, pieces, rng));
     }

@@ -3,7 +3,7 @@
 //! at the first difference, and if a refusal or another kind of answer of some call was never reached.
 
 use bench_tests::calls::Reached;
-use bench_tests::comparisons::{files, layers, queue, runs, traces};
+use bench_tests::comparisons::{editions, files, layers, queue, runs, traces};
 use bench_tests::model::fifo::Fifo;
 use bench_tests::model::lru::Lru;
 use bench_tests::rng::Rng;
@@ -16,5 +16,6 @@ fn main() {
     layers::all(&mut reached, &mut Rng::new(5));
     files::all(&mut reached, &mut Rng::new(6));
     runs::all(&mut reached, &mut Rng::new(8));
+    editions::all(&mut reached, &mut Rng::new(9));
     reached.table();
 }

@@ -7,14 +7,13 @@ use bench_tests::exported::judge::judge;
 use bench_tests::judge_cases::{
     at_the_limit, cases, ev, inside_runs, ka, pf, rq, rr, trace_first, wrong_runs,
 };
-use bench_tests::model::files::{schedule_file, trace_file, trace_of};
+use bench_tests::model::editions::new_edition;
+use bench_tests::model::files::{schedule_file, trace_file};
 use bench_tests::model::{self, min, signed, TRACE_MAX};
 use bench_tests::report::{all_reached, differs, hex, tally_text};
 use bench_tests::rng::Rng;
 use bench_tests::schedules::{disturb, legal};
-use bench_tests::traces::{
-    any, any_parked, any_sizes, edition, in_runs, of_kind, parked, scattered, sizes, KINDS,
-};
+use bench_tests::traces::{any, any_parked, any_sizes, edition, of_kind, parked, scattered, sizes, KINDS};
 
 #[derive(Default)]
 struct Judge {
@@ -184,8 +183,7 @@ fn full_size_runs(judge: &mut Judge, rng: &mut Rng) {
     for (kind, (k, a)) in KINDS.into_iter().zip([(256, 1), (256, 100), (3, 2), (40, 40)]) {
         let ordinary = of_kind(kind, k, a, TRACE_MAX, rng, scattered);
         let pages = parked(&ordinary, 16, 1_000, rng);
-        let editions =
-            [trace_file(k, a, &pages), trace_of(k, a, &in_runs(&pages)), edition(k, a, &pages, rng)];
+        let editions = [trace_file(k, a, &pages), new_edition(k, a, &pages), edition(k, a, &pages, rng)];
         let best = min::run(k, a, &pages).expect("k and a are sound").bundles;
         for trace in &editions {
             judge.expect("long runs", trace, &min::schedule(k, a, &best), best.len() as i64);

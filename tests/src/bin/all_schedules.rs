@@ -21,6 +21,7 @@ use bench_tests::model::queue::{self, Policy};
 use bench_tests::model::{judge, min};
 use bench_tests::orders::{against, Against};
 use bench_tests::report::differs;
+use bench_tests::traces::every_edition;
 use std::cmp::Ordering;
 use std::collections::{BTreeSet, HashSet};
 
@@ -258,23 +259,6 @@ fn legal_cost(k: u32, a: u32, trace: &[u32], entries: &[Entry]) -> Option<u32> {
     }
 }
 
-/// Every way to write a trace in records: requests of one page in a row cut anywhere, a single one as RQ or
-/// as RR.
-fn editions(trace: &[u32]) -> Vec<Vec<Asked>> {
-    let page = match trace.first() {
-        None => return vec![vec![]],
-        Some(&page) => page,
-    };
-    let stretch = trace.iter().take_while(|&&other| other == page).count();
-    let runs = (1..=stretch).map(|times| Asked::Rr { page, times: times as u16 });
-    let mut out = Vec::new();
-    for first in runs.chain([Asked::Rq { page }]) {
-        let rests = editions(&trace[first.requests()..]);
-        out.extend(rests.into_iter().map(|rest| [&[first][..], &rest].concat()));
-    }
-    out
-}
-
 /// Judges a schedule beside every edition of a trace; the number of them.
 fn check_files(k: u32, a: u32, trace: &[u32], editions: &[Vec<Asked>], entries: &[Entry]) -> usize {
     let schedule = schedule_file(k, a, entries);
@@ -296,7 +280,7 @@ fn try_files() -> usize {
     let mut tried = 0;
     for trace in lists(2, 3) {
         let choices = all_entries(trace.len() as u32);
-        let editions = editions(&trace);
+        let editions = every_edition(&trace);
         for (k, a) in [(1, 1), (2, 1), (2, 2)] {
             tried += check_files(k, a, &trace, &editions, &[]);
             for first in &choices {

@@ -2,21 +2,24 @@
 //! Run it by tests/speed. Usage: speed PROGRAM PLAIN_PROGRAM [PART ..]
 //!
 //! PROGRAM is `bench`, PLAIN_PROGRAM plain_bench; a PART is one of bench, next, min, lru, fifo, preview, layers,
-//! judge, and without any all are timed. Each time is the least of several repeats.
+//! judge, editions, and without any all are timed. Each time is the least of several repeats.
 
 use bench_tests::calls::queue::Exported;
 use bench_tests::exported::exports;
 use bench_tests::exported::judge::judge;
+use bench_tests::model::editions::new_edition;
 use bench_tests::model::fifo::Fifo;
-use bench_tests::model::files::{schedule_file, trace_file, trace_of, Entry};
+use bench_tests::model::files::{read_trace, schedule_file, trace_file, trace_of, Asked, Entry};
 use bench_tests::model::lru::Lru;
 use bench_tests::model::queue::Record;
 use bench_tests::model::{layers, BENCH_MAX, TRACE_MAX};
 use bench_tests::plain;
+use bench_tests::report::{differs, hex};
 use bench_tests::rng::Rng;
 use bench_tests::schedules::legal;
 use bench_tests::timing::{opaque, Table, REPEATS};
-use bench_tests::traces::{in_runs, of_kind, parked, scattered, Kind, KINDS};
+use bench_tests::traces::{edition, of_kind, parked, scattered, Kind, KINDS};
+use std::collections::HashSet;
 use std::io::Write;
 use std::process::{Command, Stdio};
 
@@ -60,7 +63,7 @@ fn tug(a: u32, n: usize) -> Vec<u32> {
 fn two_editions(a: u32, pages: &[u32]) -> [(String, Vec<u8>); 2] {
     [
         (format!("a {}, as single records", a), trace_file(K, a, pages)),
-        (format!("a {}, as runs", a), trace_of(K, a, &in_runs(pages))),
+        (format!("a {}, as runs", a), new_edition(K, a, pages)),
     ]
 }
 
@@ -404,6 +407,110 @@ fn time_fetches(table: &mut Table) {
     }
 }
 
+/// n pages, no two of them equal, drawn from all.
+fn different_pages(n: usize, rng: &mut Rng) -> Vec<u32> {
+    let mut seen = HashSet::with_capacity(n);
+    std::iter::repeat_with(|| rng.word()).filter(|&page| seen.insert(page)).take(n).collect()
+}
+
+/// An RR for each of some pages, of 1 to 20 requests, n in all.
+fn drawn_runs(pages: &[u32], n: usize, rng: &mut Rng) -> Vec<Asked> {
+    let mut left = n;
+    let mut run = |&page: &u32| {
+        let times = rng.between(1, 20).min(left);
+        left -= times;
+        Asked::Rr { page, times: times as u16 }
+    };
+    pages.iter().map(&mut run).take_while(|record| record.requests() > 0).collect()
+}
+
+/// Files of n requests with the names of their kinds. Pages are drawn, not made by the factor with which the
+/// code spreads pages over its tables.
+fn files_to_turn(n: usize) -> Vec<(&'static str, Vec<u8>)> {
+    let mut rng = Rng::new(9);
+    let pages = different_pages(n, &mut rng);
+    let few: Vec<u32> = (0..n).map(|_| rng.pick(&pages[..4])).collect();
+    let twice: Vec<u32> = pages[..n / 2].iter().flat_map(|&page| [page; 2]).collect();
+    let in_runs = trace_of(K, 1, &drawn_runs(&pages, n, &mut rng));
+    let of_runs = read_trace(&in_runs, n).expect("the file is sound").pages;
+    let run = |page, times: usize| Asked::Rr { page, times: times as u16 };
+    let ones: Vec<Asked> = pages.iter().map(|&page| run(page, 1)).collect();
+    vec![
+        ("all different", trace_file(K, 1, &pages)),
+        ("four pages", trace_file(K, 1, &few)),
+        ("each page twice", trace_file(K, 1, &twice)),
+        ("runs of 1 to 20 in RRs", in_runs),
+        ("these runs cut into RQs and RRs", edition(K, 1, &of_runs, &mut rng)),
+        ("RRs of one request", trace_of(K, 1, &ones)),
+        ("one page in two RRs", trace_of(K, 1, &[run(pages[0], n - 1), run(pages[0], 1)])),
+        ("one page in RQs", trace_file(K, 1, &vec![pages[0]; n])),
+    ]
+}
+
+/// The file, the most requests, the lent bytes; gives the length, or a refusal.
+type PlainConversion = fn(&[u8], usize, &mut [u8]) -> Result<usize, u32>;
+
+/// Turns a file into an edition in so many lent bytes, a short one often, and compares the bytes too.
+fn time_conversion(
+    table: &mut Table,
+    job: &'static str,
+    name: String,
+    file: &[u8],
+    room: usize,
+    ours: exports::Conversion,
+    plain: PlainConversion,
+) {
+    let calls = (6 * TRACE_MAX / file.len()).clamp(1, 100);
+    let (mut our_bytes, mut plain_bytes) = (vec![0; room], vec![0; room]);
+    let our_calls = || {
+        let mut out = [0; 2];
+        (0..calls).for_each(|_| ours(opaque(file), &mut our_bytes, &mut out));
+        out
+    };
+    let plain_calls = || {
+        let mut answer = Ok(0);
+        (0..calls).for_each(|_| answer = plain(opaque(file), TRACE_MAX, &mut plain_bytes));
+        answer.map_or_else(|refusal| [u64::from(refusal), 0], |length| [0, length as u64])
+    };
+    table.row(job, name.clone(), calls, &mut { our_calls }, &mut { plain_calls });
+    if our_bytes != plain_bytes {
+        differs(job, &[("kind", name), ("file", hex(file))], &hex(&plain_bytes), &hex(&our_bytes));
+    }
+}
+
+fn time_editions(table: &mut Table) {
+    let directions: [(&str, exports::Conversion, PlainConversion); 2] = [
+        ("to the old edition", exports::to_old, plain::editions::to_old),
+        ("to the new edition", exports::to_new, plain::editions::to_new),
+    ];
+    let plenty = 6 + 8 * TRACE_MAX;
+    let mut files = files_to_turn(TRACE_MAX);
+    files.push(("4,096 requests, all different", files_to_turn(BENCH_MAX).swap_remove(0).1));
+    for (job, ours, plain) in directions {
+        for (name, file) in &files {
+            let exact = plain(file, TRACE_MAX, &mut vec![0; plenty]).expect("the file is sound");
+            for (lent, room) in [("no byte over", exact), ("bytes over", plenty)] {
+                time_conversion(table, job, format!("{}, {}", name, lent), file, room, ours, plain);
+            }
+        }
+    }
+}
+
+/// A part and what it times.
+type Part = (&'static str, &'static [fn(&mut Table)]);
+
+/// All parts but `bench`, which needs the two programs.
+const PARTS: [Part; 8] = [
+    ("next", &[time_next]),
+    ("min", &[time_min, time_min_schedule]),
+    ("lru", &[time_policy::<Lru>]),
+    ("fifo", &[time_policy::<Fifo>]),
+    ("preview", &[time_policy_previews::<Lru>, time_policy_previews::<Fifo>]),
+    ("layers", &[time_layers, time_layers_requests]),
+    ("judge", &[time_judge, time_fetches]),
+    ("editions", &[time_editions]),
+];
+
 fn main() {
     let words: Vec<String> = std::env::args().skip(1).collect();
     let (program, plain_program) = match &words[..] {
@@ -415,30 +522,10 @@ fn main() {
     if wanted("bench") {
         time_bench(&mut table, program, plain_program);
     }
-    if wanted("next") {
-        time_next(&mut table);
-    }
-    if wanted("min") {
-        time_min(&mut table);
-        time_min_schedule(&mut table);
-    }
-    if wanted("lru") {
-        time_policy::<Lru>(&mut table);
-    }
-    if wanted("fifo") {
-        time_policy::<Fifo>(&mut table);
-    }
-    if wanted("preview") {
-        time_policy_previews::<Lru>(&mut table);
-        time_policy_previews::<Fifo>(&mut table);
-    }
-    if wanted("layers") {
-        time_layers(&mut table);
-        time_layers_requests(&mut table);
-    }
-    if wanted("judge") {
-        time_judge(&mut table);
-        time_fetches(&mut table);
+    for (part, jobs) in PARTS {
+        if wanted(part) {
+            jobs.iter().for_each(|time| time(&mut table));
+        }
     }
     table.worst();
 }

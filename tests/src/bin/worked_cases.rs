@@ -1,11 +1,12 @@
 //! Document 01's worked cases and those of document 02's requests, by hand, against the second
 //! implementation: a reader who doubts the model starts here. Nothing of the proved crates is run.
 
+use bench_tests::model::editions::{convert, new_edition, old_edition, printed, Edition};
 use bench_tests::model::fifo::Fifo;
 use bench_tests::model::layers::{self, Layers, Possible};
 use bench_tests::model::lru::Lru;
 use bench_tests::model::queue::{self, Policy, Record};
-use bench_tests::model::{files, judge, lines, min};
+use bench_tests::model::{files, judge, lines, min, BENCH_MAX, TRACE_MAX};
 use bench_tests::report::differs;
 use std::collections::BTreeSet;
 use std::fmt::Debug;
@@ -350,6 +351,115 @@ fn run_limits(cases: &mut Cases) {
     cases.same("an EV behind it", judged(3, 7), Err(6));
 }
 
+/// A sound file in the old edition and in the new one, whatever its number of requests.
+fn both_editions(file: &[u8]) -> [Vec<u8>; 2] {
+    [old_edition, new_edition].map(|edition| {
+        let mut bytes = vec![7; 6 + 6 * 2 * TRACE_MAX];
+        let length = convert(edition, file, usize::MAX, &mut bytes).expect("the file is sound");
+        bytes.truncate(length);
+        bytes
+    })
+}
+
+/// The two editions of small traces: what is a run is said by the requests, not by the records.
+fn editions(cases: &mut Cases) {
+    let fives = b"KA\x03\0\x02\0RQ\x05\0\0\0RR\x05\0\0\0\x03\0RQ\x05\0\0\0";
+    let single = b"KA\x03\0\x02\0RQ\x05\0\0\0RQ\x05\0\0\0RQ\x05\0\0\0RQ\x05\0\0\0RQ\x05\0\0\0";
+    let run = b"KA\x03\0\x02\0RR\x05\0\0\0\x05\0";
+    cases.same("5, 5 x 3, 5", both_editions(fives), [single.to_vec(), run.to_vec()]);
+    cases.same("5 5 5 5 5", both_editions(single), [single.to_vec(), run.to_vec()]);
+    cases.same("5 x 5", both_editions(run), [single.to_vec(), run.to_vec()]);
+    let empty = b"KA\0\x01\x01\0".to_vec();
+    cases.same("no request", both_editions(&empty), [empty.clone(), empty]);
+    let one = b"KA\x03\0\x02\0RQ\x04\x03\x02\x01".to_vec();
+    let one_run = b"KA\x03\0\x02\0RR\x04\x03\x02\x01\x01\0";
+    cases.same("a run of one", both_editions(one_run), [one.clone(), one]);
+    let zeros = b"KA\x01\0\x01\0RQ\0\0\0\0RQ\0\0\0\0".to_vec();
+    let zero_run = b"KA\x01\0\x01\0RR\0\0\0\0\x02\0".to_vec();
+    cases.same("page 0 twice", both_editions(&zeros), [zeros.clone(), zero_run]);
+    let mixed = b"KA\x02\0\x01\0RR\x08\0\0\0\x01\0RQ\x08\0\0\0RR\x09\0\0\0\x01\0RQ\x08\0\0\0";
+    let old = b"KA\x02\0\x01\0RQ\x08\0\0\0RQ\x08\0\0\0RQ\x09\0\0\0RQ\x08\0\0\0".to_vec();
+    let new = b"KA\x02\0\x01\0RR\x08\0\0\0\x02\0RQ\x09\0\0\0RQ\x08\0\0\0".to_vec();
+    cases.same("8 x 1, 8, 9 x 1, 8", both_editions(mixed), [old.clone(), new.clone()]);
+    cases.same("its new edition back", both_editions(&new), [old, new]);
+    let shift = files::trace_file(3, 2, &SHIFT);
+    cases.same("the shift in both editions", both_editions(&shift), [shift.clone(), shift]);
+}
+
+/// Runs around 65,535 and its double in the new edition, from any records, and back.
+fn long_editions(cases: &mut Cases) {
+    let (head, one, two): (&[u8], &[u8], &[u8]) = (b"KA\x03\0\x02\0", b"RQ\x05\0\0\0", b"RR\x05\0\0\0\x02\0");
+    let (almost, full): (&[u8], &[u8]) = (b"RR\x05\0\0\0\xfe\xff", b"RR\x05\0\0\0\xff\xff");
+    for (requests, records) in [
+        (65_534, vec![almost]),
+        (65_535, vec![full]),
+        (65_536, vec![full, one]),
+        (65_537, vec![full, two]),
+        (131_070, vec![full, full]),
+        (131_071, vec![full, full, one]),
+    ] {
+        let single = [head, &one.repeat(requests)].concat();
+        let longest = [head, &records.concat()].concat();
+        let both = [single.clone(), longest.clone()];
+        cases.same(&format!("{} requests in RQs", requests), both_editions(&single), both.clone());
+        cases.same(&format!("{} requests, back", requests), both_editions(&longest), both.clone());
+        let left = requests - 1;
+        let others = [head, one, &two.repeat(left / 2), &one.repeat(left % 2)].concat();
+        cases.same(&format!("{} requests in twos", requests), both_editions(&others), both);
+    }
+    let straddling = [head, one, full].concat();
+    cases.same("1 and 65,535", both_editions(&straddling)[1].clone(), [head, full, one].concat());
+}
+
+/// Which refusal an edition has: the file's own before 8, and 8 for the whole output with nothing written.
+fn edition_refusals(cases: &mut Cases) {
+    let file = b"KA\x03\0\x02\0RR\x05\0\0\0\x02\0RQ\x06\0\0\0";
+    let wrong: [(&str, &[u8], u32); 6] = [
+        ("no byte", b"", 5),
+        ("no mark", b"XX", 4),
+        ("k 0", b"KA\0\0\0\0", 1),
+        ("a 0", b"KA\x01\0\0\0", 2),
+        ("no times", b"KA\x03\0\x02\0RQ\x05\0\0\0RR\x05\0\0\0\0\0", 13),
+        ("a cut", &file[..19], 5),
+    ];
+    let editions: [(&str, Edition, usize); 2] = [("old", old_edition, 24), ("new", new_edition, 20)];
+    for (name, edition, length) in editions {
+        let mut bytes = [7; 30];
+        let mut turn = |file: &[u8], most, room: usize| convert(edition, file, most, &mut bytes[..room]);
+        for room in [0, 5, 6, 12, 14, length - 1] {
+            cases.same(&format!("{}, {} bytes", name, room), turn(file, 3, room), Err(8));
+        }
+        for (what, wrong, refusal) in wrong {
+            cases.same(&format!("{}, {}, no room", name, what), turn(wrong, 3, 0), Err(refusal));
+            cases.same(&format!("{}, {}, room", name, what), turn(wrong, 3, 30), Err(refusal));
+        }
+        cases.same(&format!("{}, 3 before 8", name), turn(file, 2, 0), Err(3));
+        cases.same(&format!("{}, nothing written", name), bytes, [7; 30]);
+        let written = convert(edition, file, 3, &mut bytes[..length]);
+        cases.same(&format!("{}, bytes enough", name), written, Ok(length));
+        cases.same(&format!("{}, bytes past them", name), bytes[length..].to_vec(), vec![7; 30 - length]);
+    }
+}
+
+/// What the two programs print.
+fn edition_programs(cases: &mut Cases) {
+    let text = |edition, input: &[u8]| String::from_utf8_lossy(&printed(edition, input)).into_owned();
+    let file = b"KA\x03\0\x02\0RQ&a3.RQ&a3.";
+    cases.same("to_old", text(old_edition, file), "KA\x03\0\x02\0RQ&a3.RQ&a3.".to_string());
+    cases.same("to_new", text(new_edition, file), "KA\x03\0\x02\0RR&a3.\x02\0".to_string());
+    let most = files::trace_file(3, 2, &[5; BENCH_MAX]);
+    cases.same("to_old, 4,096 requests", printed(old_edition, &most), most.clone());
+    let run = "KA\x03\0\x02\0RR\x05\0\0\0\0\x10".to_string();
+    cases.same("to_new, 4,096 requests", text(new_edition, &most), run);
+    let more = files::trace_file(3, 2, &[5; BENCH_MAX + 1]);
+    let no_times = b"KA\x03\0\x02\0RR\x05\0\0\0\0\0";
+    for edition in [old_edition, new_edition] {
+        cases.same("4,097 requests", text(edition, &more), "refused 3\n".to_string());
+        cases.same("nothing", text(edition, b""), "refused 5\n".to_string());
+        cases.same("no times", text(edition, no_times), "refused 13\n".to_string());
+    }
+}
+
 fn main() {
     let mut cases = Cases(0);
     marked(&mut cases);
@@ -366,5 +476,9 @@ fn main() {
     runs(&mut cases);
     run_records(&mut cases);
     run_limits(&mut cases);
+    editions(&mut cases);
+    long_editions(&mut cases);
+    edition_refusals(&mut cases);
+    edition_programs(&mut cases);
     println!("worked cases: {} agree", cases.0);
 }

@@ -5,13 +5,14 @@ use super::due;
 use super::files::read_all;
 use crate::calls::files::{TraceCount, TraceFill};
 use crate::calls::{Lent, Reached};
-use crate::damage::damaged;
+use crate::damage::{behind_the_limit, damaged};
 use crate::judge_cases::{ka, rq, rr};
-use crate::model::files::{read_trace, trace_file, trace_of};
+use crate::model::editions::new_edition;
+use crate::model::files::{read_trace, trace_file};
 use crate::model::TRACE_MAX;
 use crate::rng::Rng;
 use crate::states::border_sizes;
-use crate::traces::{any_parked, any_sizes, edition, in_runs, sizes};
+use crate::traces::{any_parked, any_sizes, edition, sizes};
 
 /// The readers on traces with runs, cut at every byte.
 fn readers(reached: &mut Reached, rng: &mut Rng) {
@@ -53,7 +54,7 @@ fn drawn(reached: &mut Reached, rng: &mut Rng) {
         let n = if turn % 40 == 0 { rng.between(100, 900) } else { rng.below(24) };
         let pages = any_parked(k, a, n, rng);
         let (k, a) = if rng.once_in(4) { any_sizes(rng) } else { (k, a) };
-        for file in [trace_file(k, a, &pages), trace_of(k, a, &in_runs(&pages)), edition(k, a, &pages, rng)] {
+        for file in [trace_file(k, a, &pages), new_edition(k, a, &pages), edition(k, a, &pages, rng)] {
             let file = damaged(&file, turn % 3, rng);
             limits(reached, &file, rng);
         }
@@ -71,25 +72,6 @@ fn every_cut(reached: &mut Reached, rng: &mut Rng) {
     for cut in 0..=file.len() {
         limits(reached, &file[..cut], rng);
     }
-}
-
-/// What may stand behind requests that are as many as the limit, with what is due then.
-fn behind_the_limit() -> Vec<(Vec<u8>, u32)> {
-    let mut out = vec![
-        (vec![], 0),
-        (rr(5, 0), 13),
-        ([rr(5, 0), rq(5)].concat(), 13),
-        (rq(5), 3),
-        (rr(5, 1), 3),
-        (rr(5, 65_535), 3),
-        (b"XX".to_vec(), 4),
-        (b"KA".to_vec(), 4),
-        (b"EV".to_vec(), 4),
-        (b"R".to_vec(), 5),
-        (rq(5)[..5].to_vec(), 5),
-    ];
-    out.extend((2..8).map(|cut| (rr(5, 0)[..cut].to_vec(), 5)));
-    out
 }
 
 /// Requests that meet a limit exactly, with each end behind them, and those that pass it with one record,

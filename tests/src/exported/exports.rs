@@ -237,6 +237,34 @@ macro_rules! over_trace {
 over_trace!(lru_over_trace);
 over_trace!(fifo_over_trace);
 
+/// A trace file turned into an edition in lent bytes: refusal, length.
+pub type Conversion = fn(&[u8], &mut [u8], &mut [u64]);
+
+/// A conversion, declared and made safe.
+macro_rules! conversion {
+    ($call:ident) => {
+        pub fn $call(file: &[u8], bytes: &mut [u8], out: &mut [u64]) {
+            extern "C" {
+                fn $call(
+                    file: *const u8,
+                    file_len: usize,
+                    bytes: *mut u8,
+                    bytes_len: usize,
+                    out: *mut u64,
+                    out_len: usize,
+                );
+            }
+            let (length, room, fields) = (file.len(), bytes.len(), out.len());
+            unsafe { $call(file.as_ptr(), length, bytes.as_mut_ptr(), room, out.as_mut_ptr(), fields) }
+        }
+    };
+}
+
+conversion!(to_old);
+conversion!(to_new);
+conversion!(program_to_old);
+conversion!(program_to_new);
+
 /// Refusal, bundles, loads.
 pub fn min_count(k: u32, a: u32, trace: &[u32], out: &mut [u64]) {
     unsafe { c::min_count(k, a, trace.as_ptr(), trace.len(), out.as_mut_ptr(), out.len()) }
