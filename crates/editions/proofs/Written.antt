@@ -72,15 +72,8 @@ module _ (page times : ℕ) (out₀ out : List ℕ) (from at left : ℕ) (w : Wr
   pub same-fits : 0 < left → at + 6 ≤ length out
   same-fits h = next-fits out₀ out from at _ _ w (rqBytes page) _ (one-of-same left page h)
 
-  pub same-next : 0 < left → (size : ℕ) (rest : List ℕ) → size ≡ putLength false (rqBytes page) (part out at) → rest ≡ putBytes false (rqBytes page) (part out at)
-      → (size ≡ 6) × WritingSame page times out₀ (back out at rest) from (at + size) (left - 1)
-  same-next h size rest answered changed =
-      let fits = same-fits h in
-      let is = put-size (rqBytes page) out at fits size rest false refl answered changed in (
-        is,
-        writing-next out₀ out from at _ _ w (rqBytes page) _ (one-of-same left page h) (back out at rest) (at + size)
-            (put-back (rqBytes page) out at fits size rest false refl answered changed) (ap (λ (m : ℕ). at + m) is),
-      )
+  pub same-next : 0 < left → (out′ : List ℕ) → out′ ≡ placed out at (rqBytes page) → WritingSame page times out₀ out′ from (at + 6) (left - 1)
+  same-next h out′ p = writing-next out₀ out from at _ _ w (rqBytes page) _ (one-of-same left page h) out′ (at + 6) p refl
 
   pub same-done : left ≤ 0 → (at ≡ from + 6 * times) × (out ≡ placed out₀ from (joined rqBytes (replicate times page)))
   same-done h =

@@ -29,8 +29,8 @@ fn put_same(page: u32, times: u32, out: &mut [u8], from: usize) -> usize
     let mut at = from;
     let mut left = times;
     while left > 0 {
-        let size = records::put::rq(&mut out[at..], page);
-        at += size;
+        records::put::rq_at(out, at, page);
+        at += length::RQ;
         left -= 1;
     }
     at

@@ -45,8 +45,8 @@ join4 s b d e f h =
     rw (j, l) (k ∙ ap (placed s 0) a)
 
 -- the same of the stores as the code makes them, one after the other
-pub stored2 : (s b d r1 r2 : List ℕ) → length b ≤ length s → r1 ≡ placed s 0 b → r2 ≡ placed r1 (length b) d → r2 ≡ placed s 0 (b ++ d)
-stored2 s b d r1 r2 h e1 e2 = e2 ∙ ap (λ (x : List ℕ). placed x (length b) d) e1 ∙ join2 s b d h
+pub stored2 : (s : List ℕ) (at : ℕ) (b d r1 r2 : List ℕ) → at + length b ≤ length s → r1 ≡ placed s at b → r2 ≡ placed r1 (at + length b) d → r2 ≡ placed s at (b ++ d)
+stored2 s at b d r1 r2 h e1 e2 = e2 ∙ ap (λ (x : List ℕ). placed x (at + length b) d) e1 ∙ placed-join s at b d h
 
 pub stored3 : (s b d e r1 r2 r3 : List ℕ) → length b + length d ≤ length s → r1 ≡ placed s 0 b → r2 ≡ placed r1 (length b) d
     → r3 ≡ placed r2 (length b + length d) e → r3 ≡ placed s 0 (b ++ (d ++ e))

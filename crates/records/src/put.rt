@@ -31,9 +31,17 @@ pub fn rq(rest: &mut [u8], page: u32) -> usize
     if rest.len() < length::RQ {
         return 0;
     }
-    wire::write16(rest, 0, Kind::RQ);
-    wire::write32(rest, 2, page);
+    rq_at(rest, 0, page);
     length::RQ
+}
+
+// The same from an offset on, where there is room for it: nothing is judged.
+pub fn rq_at(out: &mut [u8], at: usize, page: u32)
+    requires { ⌜ at + 6 ≤ length (now out) ⌝ }
+    ensures { λ _. ⌜ now (out .exit) ≡ placed (now (out .entry)) at (rqBytes page) ⌝ }
+{
+    wire::write16(out, at, Kind::RQ);
+    wire::write32(out, at + 2, page);
 }
 
 // A run of no request is not written either.

@@ -16,48 +16,36 @@ loop-holds c =
     let start = c .before in
     same-first (start .args .page) (start .args .times) (start .args .out .now) (start .args .from) (start .pre)
 
-sub-rq : tie.Need-sub-rq Inv-loop μ-loop
-sub-rq c =
-    let start = c .before .before .before in
-    let loop = c .before .loop in
-    let fits = same-fits (start .args .page) (start .args .times) (start .args .out .now) (loop .out) (start .args .from) (loop .at) (loop .left) (loop .inv) (c .loop-test .taken) in
-    omega arith
-
-part-rq-start : tie.Need-part-rq-start Inv-loop μ-loop
-part-rq-start c =
-    let start = c .before .before .before in
-    let loop = c .before .loop in
-    let fits = same-fits (start .args .page) (start .args .times) (start .args .out .now) (loop .out) (start .args .from) (loop .at) (loop .left) (loop .inv) (c .loop-test .taken) in
-    omega arith
+rq-at-requires : tie.Need-rq-at-requires Inv-loop μ-loop
+rq-at-requires c κs =
+    let start = c .before .before .before .before .args in
+    let loop = c .before .before .loop in
+    same-fits (start .page) (start .times) (start .out .now) (loop .out) (start .from) (loop .at) (loop .left) (loop .inv) (c .before .loop-test .taken)
 
 add-at : tie.Need-add-at Inv-loop μ-loop
 add-at c =
-    let start = c .before .before .before .before .before .before .before in
+    let start = c .before .before .before .before .before .before .before .args in
     let loop = c .before .before .before .before .before .loop in
     let some = c .before .before .before .before .loop-test .taken in
-    let rq = c .before .before .rq in
-    let fits = same-fits (start .args .page) (start .args .times) (start .args .out .now) (loop .out) (start .args .from) (loop .at) (loop .left) (loop .inv) some in
-    let size = same-next (start .args .page) (start .args .times) (start .args .out .now) (loop .out) (start .args .from) (loop .at) (loop .left) (loop .inv) some
-    (rq .result) (rq .last .0) (rq .ensures .0) (rq .ensures .1) .0 in
+    let fits = same-fits (start .page) (start .times) (start .out .now) (loop .out) (start .from) (loop .at) (loop .left) (loop .inv) some in
     omega arith
 
 loop-again : tie.Need-loop-again Inv-loop μ-loop
 loop-again c =
-    let start = c .before .before .before .before .before .before .before in
+    let start = c .before .before .before .before .before .before .before .args in
     let loop = c .before .before .before .before .before .loop in
     let some = c .before .before .before .before .loop-test .taken in
-    let rq = c .before .before .rq in
-    same-next (start .args .page) (start .args .times) (start .args .out .now) (loop .out) (start .args .from) (loop .at) (loop .left) (loop .inv) some
-    (rq .result) (rq .last .0) (rq .ensures .0) (rq .ensures .1) .1
+    let rq = c .before .before .rq-at in
+    same-next (start .page) (start .times) (start .out .now) (loop .out) (start .from) (loop .at) (loop .left) (loop .inv) some (rq .last .0) (rq .ensures)
 
 same-length : tie.Need-same-length Inv-loop μ-loop
 same-length c = c .before .loop .inv .same
 
 returns : tie.Need-returns Inv-loop μ-loop
 returns c =
-    let start = c .before .before .before in
+    let start = c .before .before .before .args in
     let loop = c .before .loop in
-    same-done (start .args .page) (start .args .times) (start .args .out .now) (loop .out) (start .args .from) (loop .at) (loop .left) (loop .inv) (c .loop-test .left)
+    same-done (start .page) (start .times) (start .out .now) (loop .out) (start .from) (loop .at) (loop .left) (loop .inv) (c .loop-test .left)
 
 pub put-same-spec : {M : Type 1} → statement M
 put-same-spec =
@@ -66,10 +54,7 @@ put-same-spec =
     Inv-loop
     μ-loop
     loop-holds
-    sub-rq
-    part-rq-start
-    (λ c. search needs)
-    (λ c κs. search needs)
+    rq-at-requires
     add-at
     (λ c. search needs)
     (λ c. search needs)
