@@ -11,17 +11,21 @@ use borrow.Author.Tests.{le-ltb, lt-ltb, ltb-false}
 use Rattle.wire.specs.Numbers.{placed}
 use Rattle.wire.proofs.Numbers.{length-placed, placed-join}
 use Rattle.records.specs.Bytes.{kaBytes}
+use Rattle.records.specs.Marks.{markAt}
 use Rattle.records.specs.Writing.{putBytes}
 use Rattle.reading.specs.Files.{File, requestsFrom}
+use Rattle.reading.specs.Reading.{refused, sizes, kaRead}
 use Rattle.traces.specs.Calls.{countOf}
 use Rattle.traces.specs.Traces.{traceFile}
 use Rattle.traces.specs.declared.TraceCount.{TraceCount}
-use Rattle.traces.proofs.CallLaws.{CountedWhole, count-refused, count-whole, all-there}
+use Rattle.traces.proofs.CallLaws.{starts-damaged, starts-barred, starts-whole, CountedWhole, count-refused, count-whole, all-there}
 use Rattle.editions.specs.Calls.{Edition, refusedWith, convertedOf, bytesAfter}
 use Rattle.editions.specs.Editions.{oldBytes, newBytes}
 use Rattle.editions.specs.declared.Converted.{Converted}
+use Rattle.editions.specs.declared.measure.Measured.{Measured}
+use Rattle.editions.specs.inner.Measuring.{measuredIn}
 use Rattle.editions.specs.inner.Turning.{oldBehind, newBehind}
-use Rattle.editions.proofs.Lengths.{old-size, new-behind-short}
+use Rattle.editions.proofs.Lengths.{old-size}
 
 -- ---- an edition is a KA and what stands behind it
 
@@ -38,20 +42,15 @@ new-shape k a pages = refl
 
 -- ---- 8, as the code judges it
 
--- the new edition is never longer than the old one
-pub old-room-enough : (pages : List ℕ) (n room : ℕ) → n ≡ length pages → 6 + 6 * n ≤ room → false ≡ ltb room (6 + length (newBehind pages))
-old-room-enough pages n room e h = let l = new-behind-short pages in sym (le-ltb room (6 + length (newBehind pages)) (omega arith))
+pub short-by : (room size whole : ℕ) → size ≡ whole → room < size → ltb room whole ≡ true
+short-by room size whole e h = rw (← e) (lt-ltb room size h)
+
+pub enough-by : (room size whole : ℕ) → size ≡ whole → size ≤ room → ltb room whole ≡ false
+enough-by room size whole e h = rw (← e) (le-ltb room size h)
 
 -- the old edition's length is that of so many RQs
-module _ (pages : List ℕ) (n size : ℕ) (e : n ≡ length pages) (is : size ≡ 6 + 6 * n) where
-  pub old-length-is : size ≡ 6 + length (oldBehind pages)
-  old-length-is = let l = old-size pages in omega arith
-
-  pub old-short : (room : ℕ) → room < size → ltb room (6 + length (oldBehind pages)) ≡ true
-  old-short room h = rw (← old-length-is) (lt-ltb room size h)
-
-  pub old-enough : (room : ℕ) → size ≤ room → ltb room (6 + length (oldBehind pages)) ≡ false
-  old-enough room h = rw (← old-length-is) (le-ltb room size h)
+pub old-length-is : (pages : List ℕ) (n size : ℕ) → n ≡ length pages → size ≡ 6 + 6 * n → size ≡ 6 + length (oldBehind pages)
+old-length-is pages n size e is = let l = old-size pages in omega arith
 
 -- ---- one call
 
@@ -63,8 +62,25 @@ pub record Told (edition : Edition) (behind : List ℕ → List ℕ) (most : ℕ
 pub old-told : (most : ℕ) (input out : List ℕ) (told : TraceCount) → told ≡ countOf (traceFile most input) → Told oldBytes oldBehind most input out told
 old-told most input out told e = record { shape = old-shape; count = e }
 
-pub new-told : (most : ℕ) (input out : List ℕ) (told : TraceCount) → told ≡ countOf (traceFile most input) → Told newBytes newBehind most input out told
-new-told most input out told e = record { shape = new-shape; count = e }
+-- the new edition is measured while its input is counted
+module _ (most : ℕ) (input out : List ℕ) (k a : ℕ) (ka : sizes k a 6 ≡ kaRead (markAt input) input) (m : Measured) (e : m ≡ measuredIn most (requestsFrom input 6)) where
+  pub new-told-refused : (m .refusal ≡ 0 → ⊥) → Told newBytes newBehind most input out (record { refusal = m .refusal; k = 0; a = 0; requests = 0 })
+  new-told-refused h =
+      record { shape = new-shape; count = ap countOf (starts-barred most input k a ka (record { refusal = m .refusal; requests = m .requests }) (rw e) h) }
+
+  pub new-told : m .refusal ≡ 0 → Told newBytes newBehind most input out (record { refusal = 0; k = k; a = a; requests = m .requests })
+  new-told h =
+      record { shape = new-shape; count = starts-whole most input k a ka (record { refusal = m .refusal; requests = m .requests }) (rw e) h }
+
+  pub new-length-is : m .refusal ≡ 0 → m .length ≡ 6 + length (newBehind (requestsFrom input 6 .held))
+  new-length-is h =
+      let none = sym (ap (λ (x : Measured). x .refusal) e) ∙ h in
+      ap (λ (x : Measured). x .length) e ∙ rw none
+
+-- what stands at the start is no KA
+pub new-starts-damaged : (most : ℕ) (input out : List ℕ) (number : ℕ) → refused number ≡ kaRead (markAt input) input → (r : Converted) → r ≡ refusedWith number
+    → (r ≡ convertedOf newBytes (traceFile most input) out) × (out ≡ bytesAfter newBytes (traceFile most input) out)
+new-starts-damaged most input out number e r q = rw (← starts-damaged most input number e) (q, refl)
 
 -- the answer and the lent bytes as promised
 abbrev Turned : Edition → (most : ℕ) → (input out : List ℕ) → Converted → (after : List ℕ) → Type 0

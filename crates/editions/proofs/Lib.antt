@@ -3,6 +3,7 @@ pub mod RunRecords
 pub mod Lengths
 pub mod Taking
 pub mod Written
+pub mod MeasureLaws
 pub mod CallLaws
 pub mod Programs
 pub mod Stands

@@ -1,5 +1,5 @@
 -- Bytes written one behind the other: what is still to be written, put behind what is written, makes the whole. Then each loop that writes: RQs of one page, RQs of
--- all requests, a record for each run; and the one that adds up the lengths.
+-- all requests, a record for each run.
 use Prim.Native.Nat.{ℕ, zero, suc, _+_, _*_, _-_, _≤_, _<_}
 use native.Mathlib.Omega.{arith}
 use mathlib.Core.Bool.{false}
@@ -19,7 +19,7 @@ use Rattle.cursor.specs.declared.Rest.{Rest}
 use Rattle.cursor.proofs.Laws.{rest, at-a-record}
 use Rattle.editions.specs.Editions.{longestRr, runRecord, newRecords}
 use Rattle.editions.specs.inner.Turning.{oldBehind, newBehind, Passing, RunTaken, Writing}
-use Rattle.editions.proofs.Lengths.{cost, record-length, cost-is, old-size, new-behind-short}
+use Rattle.editions.proofs.Lengths.{old-size}
 use Rattle.editions.proofs.RunRecords.{one-record}
 
 -- ---- one behind the other
@@ -251,47 +251,5 @@ module _ (file : List ℕ) (n : ℕ) (out₀ out : List ℕ) (left : Rest) (at i
               (run-to-come file n i left (w .passing) page times behind t) out′ at′ p q;
         }
 
-  pub runs-done : n ≤ i → (at ≡ 6 + length (newBehind (requestsFrom file 6 .held))) × (out ≡ placed out₀ 6 (newBehind (requestsFrom file 6 .held)))
-  runs-done h = writing-done out₀ out 6 at _ _ (w .writing) (passing-done file n i left (w .passing) h ∙ no-run-left)
-
--- ---- the lengths added up
-
-pub length-one : (times : ℕ) → times ≡ 1 → 6 ≡ length (traceEntryBytes (runRecord 0 times))
-length-one times one = sym (record-length 0 times ∙ cost-is times .one one)
-
-pub length-more : (times : ℕ) → (times ≡ 1 → ⊥) → 8 ≡ length (traceEntryBytes (runRecord 0 times))
-length-more times more = sym (record-length 0 times ∙ cost-is times .more more)
-
-pub record Measuring (file : List ℕ) (n : ℕ) (left : Rest) (size i : ℕ) : Type 0 where
-  pub passing : Passing file n i left
-  pub sum : size + length (newBehind (requestsLeft file left .held)) ≡ 6 + length (newBehind (requestsFrom file 6 .held))
-
-pub measuring-first : (file : List ℕ) (n : ℕ) → n ≡ length (requestsFrom file 6 .held) → Measuring file n (rest 0 0 6) 6 0
-measuring-first file n e = record { passing = passing-first file n e; sum = ap (λ (l : List ℕ). 6 + length l) (start-is file) }
-
--- the length is that of no more than 65,536 RQs
-pub measure-small : (file : List ℕ) (n : ℕ) → n ≡ length (requestsFrom file 6 .held) → n ≤ 65536 → 6 + length (newBehind (requestsFrom file 6 .held)) ≤ 393222
-measure-small file n e h = let l = new-behind-short (requestsFrom file 6 .held) in omega arith
-
-module _ (file : List ℕ) (n : ℕ) (left : Rest) (size i : ℕ) (m : Measuring file n left size i) where
-  module _ (page times : ℕ) (behind : Rest) (t : RunTaken file left page times behind) (more : ℕ) (is : more ≡ length (traceEntryBytes (runRecord 0 times))) where
-    measured-part : size + more + length (newBehind (requestsLeft file behind .held)) ≡ 6 + length (newBehind (requestsFrom file 6 .held))
-    measured-part =
-        let sum = m .sum in
-        let l = ap length (run-to-come file n i left (m .passing) page times behind t)
-        ∙ length-append (traceEntryBytes (runRecord page times)) (newBehind (requestsLeft file behind .held)) in
-        let c = record-length page times in
-        let d = record-length 0 times in
-        omega arith
-
-    pub measure-within : size + more ≤ 6 + length (newBehind (requestsFrom file 6 .held))
-    measure-within = let p = measured-part in omega arith
-
-    pub measuring-next : Measuring file n behind (size + more) (i + times)
-    measuring-next = record { passing = passing-next file n i left (m .passing) page times behind t; sum = measured-part }
-
-  pub measured : n ≤ i → size ≡ 6 + length (newBehind (requestsFrom file 6 .held))
-  measured h =
-      let sum = m .sum in
-      let none = ap length (passing-done file n i left (m .passing) h ∙ no-run-left) in
-      omega arith
+  pub runs-done : n ≤ i → out ≡ placed out₀ 6 (newBehind (requestsFrom file 6 .held))
+  runs-done h = writing-done out₀ out 6 at _ _ (w .writing) (passing-done file n i left (w .passing) h ∙ no-run-left) .1

@@ -1,6 +1,7 @@
 // The two editions of a trace (document 02, request 08): the old one has an RQ for each request, the new one an RQ or RR for each longest run of a page.
 // Either is made of any trace file that the reader accepts, in lent bytes; a refused call changes none of them.
 //   runs         the requests of one record of the new edition, taken from what is left of a file
+//   measure      how long the new edition of a file is
 //   old_edition  an RQ for each request
 //   new_edition  a record for each longest run
 //   program      the two calls as the programs `to_old` and `to_new` make them
@@ -10,6 +11,7 @@ ghost use Rattle.editions.specs.Calls.{libraryRequests, refusedWith, con
 ghost use Rattle.editions.specs.Editions.{oldBytes, newBytes};
 use paging::Sizes;
 
+mod measure;
 mod new_edition;
 mod old_edition;
 pub mod program;

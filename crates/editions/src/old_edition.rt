@@ -14,7 +14,7 @@ use cursor::next_record;
 use records::length;
 
 // The length of the old edition of so many requests.
-pub(crate) fn size(requests: usize) -> usize
+fn size(requests: usize) -> usize
     requires { ⌜ requests ≤ libraryRequests ⌝ }
     ensures { λ r. ⌜ r ≡ 6 + 6 * requests ⌝ }
 {

@@ -16,7 +16,7 @@ pub(crate) struct NextRun {
 }
 
 // The most requests of an RR.
-const LONGEST: u32 = 65535;
+pub(crate) const LONGEST: u32 = 65535;
 
 // What is left, with a run begun.
 fn begun(file: &[u8], left: Rest) -> Rest

@@ -4,8 +4,10 @@ use native.Mathlib.Nat.{zero-add}
 use native.Mathlib.Omega.{arith}
 use mathlib.Core.List.{List, []}
 use mathlib.Core.Path.{_≡_, refl, sym, ap, _∙_}
+use lib.Dec.{eqb}
 use lib.ListN.{length, replicate, length-replicate, length-append}
 use borrow.Author.Tests.{lt-ltb, le-ltb, ne-eqb}
+use Rattle.lists.specs.Choice.{pick}
 use Rattle.reading.specs.Answers.{traceAnswer}
 use Rattle.reading.specs.Files.{File, requestsFrom, before}
 use Rattle.reading.specs.Reading.{readTrace}
@@ -14,6 +16,8 @@ use Rattle.reading.specs.declared.TraceRecord.{TraceRecord}
 use Rattle.reading.specs.declared.TraceRecord.the-variants as traced
 use Rattle.reading.proofs.Facts.{trace-says, RequestAt}
 use Rattle.reading.proofs.Walk.{requests-refused, requests-ended, requests-request}
+use Rattle.traces.specs.Traces.{requestsRefusal}
+use Rattle.traces.specs.declared.Counted.{Counted}
 use Rattle.traces.specs.inner.Counting.{countedIn}
 
 pub record Counting (file : List ℕ) (most at n : ℕ) : Type 0 where
@@ -78,3 +82,8 @@ module _ (file : List ℕ) (most at n : ℕ) (c : Counting file most at n) (r : 
       let b = trace-says file at (reading.sizes k a next) (sym e ∙ ap traceAnswer q) .start in
       let z = c .started in
       omega arith
+
+-- what a count says, field by field
+pub counted-says : (most : ℕ) (file : File ℕ) (number n : ℕ) → record { refusal = number; requests = n } ≡ countedIn most file
+    → (number ≡ requestsRefusal most file) × (n ≡ pick (eqb (requestsRefusal most file) 0) (length (file .held)) 0)
+counted-says most file number n c = (ap (λ (x : Counted). x .refusal) c, ap (λ (x : Counted). x .requests) c)

@@ -2,7 +2,7 @@
 use native.Mathlib.Omega.{arith}
 use borrow.Author.Needs.{needs}
 use Rattle.reading.specs.Files.{requestsFrom}
-use Rattle.editions.proofs.CallLaws.{old-told, old-length-is, old-short, old-enough, turned-refused, sizes-small, requests-are, turned-short, behind-fits, turned-whole}
+use Rattle.editions.proofs.CallLaws.{short-by, enough-by, old-length-is, old-told, turned-refused, sizes-small, requests-are, turned-short, behind-fits, turned-whole}
 use Rattle.editions.proofs.old_edition.within.Statement.{statement}
 use Rattle.editions.proofs.old_edition.within.Tie as tie
 
@@ -19,8 +19,7 @@ size-requires c κs =
     let count = c .before .before .count in
     let told = old-told (start .args .most) (start .args .input .now) (start .args .out .now) (count .result) (count .ensures) in
     let most = start .pre in
-    let are = requests-are told (c .if1 .left) in
-    let few = are .1 in
+    let few = requests-are told (c .if1 .left) .1 in
     omega arith
 
 returns-2 : tie.Need-returns-2
@@ -31,8 +30,8 @@ returns-2 c =
     let none = c .before .before .before .if1 .left in
     let size = c .before .before .size in
     let are = requests-are told none .0 in
-    let short = old-short (requestsFrom (start .args .input .now) 6 .held) (count .result .requests) (size .result) are (size .ensures) _ (c .before .if2 .taken) in
-    turned-short told none short (c .refused2 .result) (c .refused2 .ensures)
+    let long = old-length-is (requestsFrom (start .args .input .now) 6 .held) (count .result .requests) (size .result) are (size .ensures) in
+    turned-short told none (short-by _ (size .result) _ long (c .before .if2 .taken)) (c .refused2 .result) (c .refused2 .ensures)
 
 cast-ka : tie.Need-cast-ka
 cast-ka c =
@@ -57,11 +56,11 @@ put-singles-requires c κs =
     let told = old-told (start .args .most) (start .args .input .now) (start .args .out .now) (count .result) (count .ensures) in
     let none = c .before .before .before .before .before .before .before .before .before .if1 .left in
     let ka = c .before .before .before .ka in
-    let are = requests-are told none .0 in
     let size = c .before .before .before .before .before .before .before .before .size in
-    let room = old-enough (requestsFrom (start .args .input .now) 6 .held) (count .result .requests) (size .result) are (size .ensures) _ (c .before .before .before .before .before .before .before .if2 .left) in
-    let fits = behind-fits told none room (ka .last .0) (ka .ensures .1) in
+    let are = requests-are told none .0 in
     let long = old-length-is (requestsFrom (start .args .input .now) 6 .held) (count .result .requests) (size .result) are (size .ensures) in
+    let if2 = c .before .before .before .before .before .before .before .if2 in
+    let fits = behind-fits told none (enough-by _ (size .result) _ long (if2 .left)) (ka .last .0) (ka .ensures .1) in
     let is = size .ensures in
     (are, omega arith)
 
@@ -73,11 +72,11 @@ returns-3 c =
     let none = c .before .before .before .before .before .before .before .before .before .before .before .before .if1 .left in
     let ka = c .before .before .before .before .before .before .ka in
     let put = c .before .before .put-singles in
-    let are = requests-are told none .0 in
     let size = c .before .before .before .before .before .before .before .before .before .before .before .size in
-    let room = old-enough (requestsFrom (start .args .input .now) 6 .held) (count .result .requests) (size .result) are (size .ensures) _ (c .before .before .before .before .before .before .before .before .before .before .if2 .left) in
+    let are = requests-are told none .0 in
     let long = old-length-is (requestsFrom (start .args .input .now) 6 .held) (count .result .requests) (size .result) are (size .ensures) in
-    turned-whole told none room (ka .last .0) (ka .ensures .1) _ (put .last .1 .1 .0) long (put .ensures)
+    let if2 = c .before .before .before .before .before .before .before .before .before .before .if2 in
+    turned-whole told none (enough-by _ (size .result) _ long (if2 .left)) (ka .last .0) (ka .ensures .1) (size .result) (put .last .1 .1 .0) long (put .ensures)
 
 pub within-spec : {M : Type 1} → statement M
 within-spec =
