@@ -1,7 +1,6 @@
 -- The lengths of the two editions. No file of a trace is shorter than its new edition.
-use Prim.Native.Nat.{ℕ, zero, suc, _+_, _*_, _-_, _≤_, _<_}
+use Prim.Native.Nat.{ℕ, suc, _+_, _*_, _-_, _≤_, _<_}
 use native.Mathlib.Omega.{arith}
-use mathlib.Core.Bool.{Bool, true, false}
 use mathlib.Core.List.{List, [], _∷_, _++_, append-assoc}
 use mathlib.Core.Path.{_≡_, refl, sym, ap, _∙_}
 use lib.Dec.{eqb, ltb}
@@ -9,9 +8,9 @@ use lib.ListN.{length, replicate, length-append}
 use borrow.Author.Tests.{eqb-true, eqb-false}
 use Rattle.lists.specs.Choice.{pick}
 use Rattle.lists.proofs.Choice.{cases, by-test, tests}
-use Rattle.records.specs.Bytes.{TraceEntry, rq, rr, traceEntryBytes, joined, traceBytes, requestsOf, allRequestsOf, singles}
+use Rattle.records.specs.Bytes.{TraceEntry, rq, rr, traceEntryBytes, joined, requestsOf, allRequestsOf, singles}
 use Rattle.records.proofs.Files.{singles-stand}
-use Rattle.editions.specs.Editions.{PageRun, run, longestRr, longestRuns, runRecord, allRunRecords, oldBytes, newRecords, newBytes}
+use Rattle.editions.specs.Editions.{PageRun, longestRr, longestRuns, runRecord, allRunRecords, oldBytes, newRecords, newBytes}
 use Rattle.editions.specs.Longest.{RecordFits, RecordsFit}
 use Rattle.editions.specs.inner.Turning.{oldBehind, newBehind}
 use Rattle.editions.proofs.LongestRuns.{first-run, same-page}

@@ -1,14 +1,13 @@
 -- The new edition measured in one pass: what is measured and what is to come make up the whole, whether the file is good or not.
 use Prim.Native.Nat.{ℕ, zero, suc, _+_, _*_, _-_, _≤_, _<_}
 use native.Mathlib.Omega.{arith}
-use mathlib.Core.List.{List, [], _∷_, _++_, append-assoc, append-nil}
+use mathlib.Core.List.{List, [], _∷_, _++_, append-assoc}
 use mathlib.Core.Path.{_≡_, refl, sym, ap, _∙_}
-use lib.Dec.{eqb}
 use lib.ListN.{length, replicate, length-append}
-use borrow.Author.Tests.{eq-eqb, ne-eqb}
+use borrow.Author.Tests.{ne-eqb}
 use Rattle.records.specs.Bytes.{traceEntryBytes, joined}
 use Rattle.reading.specs.Answers.{traceAnswer}
-use Rattle.reading.specs.Files.{File, before, requestsFrom}
+use Rattle.reading.specs.Files.{File, requestsFrom}
 use Rattle.reading.specs.Reading.{readTrace}
 use Rattle.reading.specs.Reading as reading
 use Rattle.reading.specs.declared.TraceRecord.{TraceRecord}

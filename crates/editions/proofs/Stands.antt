@@ -1,25 +1,24 @@
 -- The claims of `TwoEditions`: both editions are files of the trace, so they are read as the input is; and any other file of it is at least as long as the new one.
-use Prim.Native.Nat.{ℕ, suc, _+_, _≤_, _<_}
+use Prim.Native.Nat.{ℕ, _≤_}
 use native.Mathlib.Omega.{arith}
 use mathlib.Core.Bool.{true}
 use mathlib.Core.List.{List, [], _∷_, _++_}
 use mathlib.Core.Path.{_≡_, refl, sym, ap, _∙_}
 use lib.Dec.{ltb}
-use lib.ListN.{length, take, drop, length-append}
+use lib.ListN.{length, drop}
 use lib.Seq.{take-at}
 use borrow.Author.Tests.{le-ltb}
 use Rattle.lists.proofs.Choice.{cases, tests}
 use Rattle.wire.specs.Numbers.{Bytes}
 use Rattle.wire.proofs.Numbers.{bytes-drop}
-use Rattle.paging.specs.Refusals.{SizesRight}
 use Rattle.records.specs.Bytes.{TraceEntry, rq, rr, rqBytes, rrBytes, kaBytes, traceEntryBytes, joined, TraceFileOf, RunsWritable}
 use Rattle.records.proofs.Files.{one-by-one}
-use Rattle.reading.specs.Files.{File, requestsFrom}
+use Rattle.reading.specs.Files.{File}
 use Rattle.reading.proofs.Exact.{trace-exact}
 use Rattle.reading.proofs.Walk.{requests-sizes}
 use Rattle.traces.specs.Traces.{TraceFile, whole, damaged, traceFile}
-use Rattle.traces.proofs.Whole.{WholeTrace, file-says, file-of-a-trace}
-use Rattle.editions.specs.Calls.{Edition, convertedOf, bytesAfter, output}
+use Rattle.traces.proofs.Whole.{file-says, file-of-a-trace}
+use Rattle.editions.specs.Calls.{Edition, convertedOf, output}
 use Rattle.editions.specs.Editions.{newRecords, oldBytes, newBytes}
 use Rattle.editions.specs.Longest.{RecordsFit}
 use Rattle.editions.specs.TwoEditions.{TwoEditions}

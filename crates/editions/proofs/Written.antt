@@ -13,11 +13,11 @@ use Rattle.wire.proofs.Numbers.{length-placed, placed-none, placed-join}
 use Rattle.records.specs.Bytes.{rqBytes, rrBytes, traceEntryBytes, joined}
 use Rattle.records.specs.Writing.{putLength, putBytes}
 use Rattle.records.proofs.Writing.{part, back, put-size, put-back}
-use Rattle.reading.specs.Files.{File, before, requestsFrom}
+use Rattle.reading.specs.Files.{File, requestsFrom}
 use Rattle.cursor.specs.Cursor.{Begun, requestsLeft}
 use Rattle.cursor.specs.declared.Rest.{Rest}
 use Rattle.cursor.proofs.Laws.{rest, at-a-record}
-use Rattle.editions.specs.Editions.{longestRr, runRecord, newRecords}
+use Rattle.editions.specs.Editions.{runRecord, newRecords}
 use Rattle.editions.specs.inner.Turning.{oldBehind, newBehind, Passing, RunTaken, Writing}
 use Rattle.editions.proofs.Lengths.{old-size}
 use Rattle.editions.proofs.RunRecords.{one-record}

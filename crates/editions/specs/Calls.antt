@@ -1,6 +1,6 @@
 -- What the calls answer and leave in the lent bytes (document 02, request 08): by the input as it is read whole with a limit. The input's own refusals come
 -- first, then 8 for the whole output.
-use Prim.Native.Nat.{ℕ, _+_, _*_, _≤_}
+use Prim.Native.Nat.{ℕ, _≤_}
 use mathlib.Core.List.{List, _++_}
 use mathlib.Core.Path.{_≡_}
 use lib.Dec.{ltb}

@@ -1,5 +1,4 @@
 -- `last_length` meets its contract, by the three arms of its match.
-use borrow.Author.Needs.{needs}
 use borrow.Author.Tests.{ne-eqb}
 use Rattle.editions.proofs.measure.last_length.Statement.{statement}
 use Rattle.editions.proofs.measure.last_length.Tie as tie
