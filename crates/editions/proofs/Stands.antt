@@ -11,7 +11,7 @@ use borrow.Author.Tests.{le-ltb}
 use Rattle.lists.proofs.Choice.{cases, tests}
 use Rattle.wire.specs.Numbers.{Bytes}
 use Rattle.wire.proofs.Numbers.{bytes-drop}
-use Rattle.records.specs.Bytes.{TraceEntry, rq, rr, rqBytes, rrBytes, kaBytes, traceEntryBytes, joined, TraceFileOf, RunsWritable}
+use Rattle.records.specs.Bytes.{TraceEntry, rq, rr, rqBytes, rrBytes, kaBytes, traceEntryBytes, joined, TraceFileOf, RunsWritable, singles, traceBytes, allRequestsOf}
 use Rattle.records.proofs.Files.{one-by-one}
 use Rattle.reading.specs.Files.{File}
 use Rattle.reading.proofs.Exact.{trace-exact}
@@ -20,7 +20,7 @@ use Rattle.traces.specs.Traces.{TraceFile, whole, damaged, traceFile}
 use Rattle.traces.proofs.Whole.{file-says, file-of-a-trace}
 use Rattle.editions.specs.Calls.{Edition, convertedOf, output}
 use Rattle.editions.specs.Editions.{newRecords, oldBytes, newBytes}
-use Rattle.editions.specs.Longest.{RecordsFit}
+use Rattle.editions.specs.Longest.{OnlySingles, RecordsFit}
 use Rattle.editions.specs.TwoEditions.{TwoEditions}
 use Rattle.editions.proofs.Lengths.{none-shorter, new-length, new-never-longer}
 use Rattle.editions.proofs.LongestRuns.{runs-make-the-trace, runs-are-longest, no-other-runs}
@@ -39,6 +39,16 @@ new-file : Stands newBytes
 unfolding newBytes
 new-file k a pages =
     record { entries = newRecords pages; runs = fits-writable (newRecords pages) (new-records-fit pages); bytes = refl; requests = new-records-stand pages }
+
+-- records of RQs alone are those of the old edition
+only-singles : (es : List TraceEntry) → OnlySingles es → es ≡ singles (allRequestsOf es)
+only-singles [] o = refl
+only-singles (rq page ∷ es) o = ap (λ (l : List TraceEntry). rq page ∷ l) (only-singles es o)
+only-singles (rr page times ∷ es) o = absurd o
+
+old-files : (k a : ℕ) (entries : List TraceEntry) → OnlySingles entries → traceBytes k a entries ≡ oldBytes k a (allRequestsOf entries)
+unfolding oldBytes
+old-files k a entries o = ap (traceBytes k a) (only-singles entries o)
 
 -- ---- the output of a call
 
@@ -117,6 +127,7 @@ two-editions limit =
     record {
       old-stands = λ input out h. stands-for limit oldBytes old-file input out (traceFile limit input) refl h;
       new-stands = λ input out h. stands-for limit newBytes new-file input out (traceFile limit input) refl h;
+      old-files = old-files;
       old-new-old = old-new-old limit;
       runs-make-the-trace = runs-make-the-trace;
       runs-are-longest = runs-are-longest;

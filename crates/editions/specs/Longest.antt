@@ -20,6 +20,12 @@ abbrev pub Longest : List PageRun → Type 0
 Longest [] = Unit {0}
 Longest (r ∷ rs) = (0 < r .times) × (Apart (r .page) rs × Longest rs)
 
+-- records of an old file: RQs alone
+abbrev pub OnlySingles : List TraceEntry → Type 0
+OnlySingles [] = Unit {0}
+OnlySingles (rq page ∷ es) = OnlySingles es
+OnlySingles (rr page times ∷ es) = ⊥
+
 -- records as a file can have them: an RR has 1 to 65,535 requests
 abbrev pub RecordFits : TraceEntry → Type 0
 RecordFits (rq page) = Unit {0}

@@ -5,10 +5,11 @@ use mathlib.Core.List.{List}
 use mathlib.Core.Path.{_≡_}
 use lib.ListN.{length}
 use Rattle.wire.specs.Numbers.{Bytes}
+use Rattle.records.specs.Bytes.{TraceEntry, traceBytes, allRequestsOf}
 use Rattle.traces.specs.Traces.{whole, traceFile}
 use Rattle.editions.specs.Calls.{convertedOf, output}
 use Rattle.editions.specs.Editions.{PageRun, longestRuns, newRecords, oldBytes, newBytes}
-use Rattle.editions.specs.Longest.{requestsOfRuns, Longest, RecordsFit}
+use Rattle.editions.specs.Longest.{requestsOfRuns, Longest, OnlySingles, RecordsFit}
 
 pub record TwoEditions (limit : ℕ) : Type 0 where
   -- "both outputs stand for the requests of the input": what a call that is not refused writes is read as the input is, with its sizes
@@ -16,6 +17,8 @@ pub record TwoEditions (limit : ℕ) : Type 0 where
       → traceFile limit (output oldBytes (traceFile limit input) out) ≡ traceFile limit input
   pub new-stands : (input out : List ℕ) → convertedOf newBytes (traceFile limit input) out .refusal ≡ 0
       → traceFile limit (output newBytes (traceFile limit input) out) ≡ traceFile limit input
+  -- an old file has no RR: whatever RQs it has, it is the old edition of their requests
+  pub old-files : (k a : ℕ) (entries : List TraceEntry) → OnlySingles entries → traceBytes k a entries ≡ oldBytes k a (allRequestsOf entries)
   -- "turning an old file to the new edition and back yields the old file's bytes": an old file that is accepted, and as many bytes as it has lent to both calls
   pub old-new-old : (k a : ℕ) (pages old out other : List ℕ) → old ≡ oldBytes k a pages → traceFile limit old ≡ whole k a pages
       → length old ≤ length out → length old ≤ length other
