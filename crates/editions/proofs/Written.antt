@@ -3,7 +3,7 @@
 use Prim.Native.Nat.{ℕ, zero, suc, _+_, _*_, _-_, _≤_, _<_}
 use native.Mathlib.Omega.{arith}
 use mathlib.Core.Bool.{false}
-use mathlib.Core.List.{List, [], _∷_, _++_, append-assoc}
+use mathlib.Core.List.{List, [], _∷_, _++_, append-assoc, append-nil}
 use mathlib.Core.Path.{_≡_, refl, sym, ap, _∙_}
 use lib.Dec.{eqb}
 use lib.ListN.{length, replicate, length-append, length-replicate}
@@ -82,6 +82,15 @@ module _ (page times : ℕ) (out₀ out : List ℕ) (from at left : ℕ) (w : Wr
       let l = same-size times page in
       let at-is = done .0 in
       (omega arith, done .1)
+
+-- a single one
+module _ (page times from : ℕ) (out : List ℕ) (one : times ≡ 1) (room : from + 6 * times ≤ length out) where
+  pub single-room : from + 6 ≤ length out
+  single-room = omega arith
+
+  pub single-same : (out′ : List ℕ) → out′ ≡ placed out from (rqBytes page)
+      → (from + 6 ≡ from + 6 * times) × (out′ ≡ placed out from (joined rqBytes (replicate times page)))
+  single-same out′ p = (omega arith, rw one (p ∙ ap (placed out from) (sym (append-nil (rqBytes page)))))
 
 -- ---- RQs of all requests
 

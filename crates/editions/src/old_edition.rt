@@ -36,6 +36,18 @@ fn put_same(page: u32, times: u32, out: &mut [u8], from: usize) -> usize
     at
 }
 
+// The same for a record's requests. Most records have one, which a loop would take longer to begin than to store.
+fn put_requests(page: u32, times: u32, out: &mut [u8], from: usize) -> usize
+    requires { ⌜ from + 6 * times ≤ length (now out) ⌝ }
+    ensures { λ r. ⌜ (r ≡ from + 6 * times) × (now (out .exit) ≡ placed (now (out .entry)) from (joined rqBytes (replicate times page))) ⌝ }
+{
+    if times == 1 {
+        records::put::rq_at(out, from, page);
+        return from + length::RQ;
+    }
+    put_same(page, times, out, from)
+}
+
 // An RQ for each of the n requests behind the KA, behind the lent bytes' KA.
 fn put_singles(file: &[u8], n: usize, out: &mut [u8])
     requires { ⌜ (n ≡ length (requestsFrom (now file) 6 .held)) × (6 + 6 * n ≤ length (now out)) ⌝ }
@@ -46,7 +58,7 @@ fn put_singles(file: &[u8], n: usize, out: &mut [u8])
     let mut i = 0;
     while i < n {
         let found = next_record(file, from);
-        at = put_same(found.page, found.times, out, at);
+        at = put_requests(found.page, found.times, out, at);
         i += found.times as usize;
         from = found.from;
     }

@@ -20,8 +20,8 @@ loop-holds c =
 next-record-requires : tie.Need-next-record-requires Inv-loop μ-loop
 next-record-requires c κs = singles-there _ _ _ _ _ _ _ (c .before .loop .inv) (c .loop-test .taken)
 
-put-same-requires : tie.Need-put-same-requires Inv-loop μ-loop
-put-same-requires c κs =
+put-requests-requires : tie.Need-put-requests-requires Inv-loop μ-loop
+put-requests-requires c κs =
     let found = c .before .next-record in
     singles-fit _ _ _ _ _ _ _ (c .before .before .before .loop .inv) (found .result) (found .ensures)
 
@@ -39,7 +39,7 @@ loop-less c =
 
 loop-again : tie.Need-loop-again Inv-loop μ-loop
 loop-again c =
-    let put = c .before .before .before .put-same in
+    let put = c .before .before .before .put-requests in
     let found = c .before .before .before .before .before .next-record in
     let inv = c .before .before .before .before .before .before .before .loop .inv in
     singles-next _ _ _ _ _ _ _ inv (found .result) (found .ensures) (put .result) (put .last .1 .1 .0) (put .ensures .0) (put .ensures .1)
@@ -58,7 +58,7 @@ put-singles-spec =
     μ-loop
     loop-holds
     next-record-requires
-    put-same-requires
+    put-requests-requires
     (λ c. search needs)
     add-i
     loop-less
