@@ -2,17 +2,13 @@
 -- all requests, a record for each run.
 use Prim.Native.Nat.{ℕ, zero, suc, _+_, _*_, _-_, _≤_, _<_}
 use native.Mathlib.Omega.{arith}
-use mathlib.Core.Bool.{false}
 use mathlib.Core.List.{List, [], _∷_, _++_, append-assoc, append-nil}
 use mathlib.Core.Path.{_≡_, refl, sym, ap, _∙_}
-use lib.Dec.{eqb}
 use lib.ListN.{length, replicate, length-append, length-replicate}
 use borrow.Author.Tests.{eq-eqb, ne-eqb}
 use Rattle.wire.specs.Numbers.{placed}
 use Rattle.wire.proofs.Numbers.{length-placed, placed-none, placed-join}
 use Rattle.records.specs.Bytes.{rqBytes, rrBytes, traceEntryBytes, joined}
-use Rattle.records.specs.Writing.{putLength, putBytes}
-use Rattle.records.proofs.Writing.{part, back, put-size, put-back}
 use Rattle.reading.specs.Files.{File, requestsFrom}
 use Rattle.cursor.specs.Cursor.{Begun, requestsLeft}
 use Rattle.cursor.specs.declared.Rest.{Rest}
@@ -164,11 +160,8 @@ module _ (file : List ℕ) (n : ℕ) (out₀ out : List ℕ) (from at i : ℕ) (
 -- ---- a run's record
 
 module _ (page times : ℕ) (out : List ℕ) (at : ℕ) (fits : at + length (traceEntryBytes (runRecord page times)) ≤ length out) where
-  abbrev Put : (size : ℕ) → (rest : List ℕ) → Type 0
-  Put size rest = (at + size ≡ at + length (traceEntryBytes (runRecord page times))) × (back out at rest ≡ placed out at (traceEntryBytes (runRecord page times)))
-
-  put-as : (b : List ℕ) → traceEntryBytes (runRecord page times) ≡ b → (size : ℕ) (rest : List ℕ) → size ≡ length b → back out at rest ≡ placed out at b → Put size rest
-  put-as b e size rest s p = rw e (ap (λ (m : ℕ). at + m) s, p)
+  abbrev Put : (next : ℕ) → (out′ : List ℕ) → Type 0
+  Put next out′ = (next ≡ at + length (traceEntryBytes (runRecord page times))) × (out′ ≡ placed out at (traceEntryBytes (runRecord page times)))
 
   module _ (one : times ≡ 1) where
     single-is : traceEntryBytes (runRecord page times) ≡ rqBytes page
@@ -177,24 +170,18 @@ module _ (page times : ℕ) (out : List ℕ) (at : ℕ) (fits : at + length (tra
     pub single-fits : at + 6 ≤ length out
     single-fits = let l = ap length single-is in omega arith
 
-    pub single-put : (size : ℕ) (rest : List ℕ) → size ≡ putLength false (rqBytes page) (part out at) → rest ≡ putBytes false (rqBytes page) (part out at) → Put size rest
-    single-put size rest answered changed =
-        put-as (rqBytes page) single-is size rest (put-size (rqBytes page) out at single-fits size rest false refl answered changed)
-        (put-back (rqBytes page) out at single-fits size rest false refl answered changed)
+    pub single-put : (out′ : List ℕ) → out′ ≡ placed out at (rqBytes page) → Put (at + 6) out′
+    single-put out′ p = rw single-is (refl, p)
 
-  module _ (more : times ≡ 1 → ⊥) (some : 0 < times) where
+  module _ (more : times ≡ 1 → ⊥) where
     run-is : traceEntryBytes (runRecord page times) ≡ rrBytes page times
     run-is = rw (ne-eqb times 1 more)
 
     pub run-fits : at + 8 ≤ length out
     run-fits = let l = ap length run-is in omega arith
 
-    pub run-put : (size : ℕ) (rest : List ℕ) → size ≡ putLength (eqb times 0) (rrBytes page times) (part out at)
-        → rest ≡ putBytes (eqb times 0) (rrBytes page times) (part out at) → Put size rest
-    run-put size rest answered changed =
-        let fine = ne-eqb times 0 (λ z. omega arith) in
-        put-as (rrBytes page times) run-is size rest (put-size (rrBytes page times) out at run-fits size rest (eqb times 0) fine answered changed)
-        (put-back (rrBytes page times) out at run-fits size rest (eqb times 0) fine answered changed)
+    pub run-put : (out′ : List ℕ) → out′ ≡ placed out at (rrBytes page times) → Put (at + 8) out′
+    run-put out′ p = rw run-is (refl, p)
 
 -- ---- a record for each run
 

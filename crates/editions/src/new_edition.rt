@@ -20,16 +20,16 @@ use records::length;
 
 // A run's record from an offset on; answers the offset behind it.
 fn put_run(page: u32, times: u32, out: &mut [u8], at: usize) -> usize
-    requires { ⌜ (0 < times) × (times ≤ longestRr) × (at + length (traceEntryBytes (runRecord page times)) ≤ length (now out)) ⌝ }
+    requires { ⌜ (times ≤ longestRr) × (at + length (traceEntryBytes (runRecord page times)) ≤ length (now out)) ⌝ }
     ensures { λ r. ⌜ (r ≡ at + length (traceEntryBytes (runRecord page times)))
         × (now (out .exit) ≡ placed (now (out .entry)) at (traceEntryBytes (runRecord page times))) ⌝ }
 {
     if times == 1 {
-        let size = records::put::rq(&mut out[at..], page);
-        return at + size;
+        records::put::rq_at(out, at, page);
+        return at + length::RQ;
     }
-    let size = records::put::rr(&mut out[at..], page, times as u16);
-    at + size
+    records::put::rr_at(out, at, page, times as u16);
+    at + length::RR
 }
 
 // A record for each run of the n requests behind the KA, behind the lent bytes' KA.

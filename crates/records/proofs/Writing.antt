@@ -170,20 +170,6 @@ pub room-by : (b out : List ℕ) (at size n : ℕ) → size ≡ length b → n �
 unfolding roomRefusal
 room-by b out at size n e r = r ∙ ap (λ (m : ℕ). refuse (ltb (length out) at) 9 (refuse (ltb (length out - at) m) 8 0)) e
 
--- with room for it, the call below has put the whole record
-module _ (b out : List ℕ) (at : ℕ) (fits : at + length b ≤ length out) (size : ℕ) (rest : List ℕ) (barred : Bool) (fine : barred ≡ false)
-    (answered : size ≡ putLength barred b (part out at)) (changed : rest ≡ putBytes barred b (part out at)) where
-  in-part : length b ≤ length (part out at)
-  in-part = rw (part-is out at, length-drop at out) (omega arith)
-
-  pub put-size : size ≡ length b
-  put-size = answered ∙ rw (fine, le-ltb (length (part out at)) (length b) in-part)
-
-  pub put-back : back out at rest ≡ placed out at b
-  put-back =
-      let e : putBytes barred b (part out at) ≡ placed (part out at) 0 b = rw (fine, le-ltb (length (part out at)) (length b) in-part) in
-      ap (back out at) (changed ∙ e) ∙ back-placed out at b
-
 module _ (b out : List ℕ) (at : ℕ) (none : 0 ≡ roomRefusal b out at) where
   pub room-fits : at + length b ≤ length out
   unfolding roomRefusal
@@ -195,16 +181,26 @@ module _ (b out : List ℕ) (at : ℕ) (none : 0 ≡ roomRefusal b out at) where
       let m : length b ≤ length out - at = ltb-false (length out - at) (length b) (q .0) in
       omega arith
 
+  -- with room, the call below has put the whole record
   module _ (size : ℕ) (rest : List ℕ) (barred : Bool) (fine : barred ≡ false)
       (answered : size ≡ putLength barred b (part out at)) (changed : rest ≡ putBytes barred b (part out at)) where
+    in-part : length b ≤ length (part out at)
+    in-part = let f : at + length b ≤ length out = room-fits in rw (part-is out at, length-drop at out) (omega arith)
+
+    put-size : size ≡ length b
+    put-size = answered ∙ rw (fine, le-ltb (length (part out at)) (length b) in-part)
+
+    put-back : back out at rest ≡ placed out at b
+    put-back =
+        let e : putBytes barred b (part out at) ≡ placed (part out at) 0 b = rw (fine, le-ltb (length (part out at)) (length b) in-part) in
+        ap (back out at) (changed ∙ e) ∙ back-placed out at b
+
     pub put-fits : at + size ≤ length out
-    put-fits = omega (arith, room-fits, put-size b out at room-fits size rest barred fine answered changed)
+    put-fits = omega (arith, room-fits, put-size)
 
     pub put-writes : (r : ℕ) → r ≡ 0
         → (stored (at + size) ≡ wrote r b at) × (back out at rest ≡ outAfter r b out at)
-    put-writes r z =
-        writes b out (back out at rest) at size r z (put-size b out at room-fits size rest barred fine answered changed)
-        (put-back b out at room-fits size rest barred fine answered changed)
+    put-writes r z = writes b out (back out at rest) at size r z put-size put-back
 
 -- ---- what a refusal's number makes of the answer and the bytes
 

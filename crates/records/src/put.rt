@@ -55,10 +55,18 @@ pub fn rr(rest: &mut [u8], page: u32, times: u16) -> usize
     if rest.len() < length::RR {
         return 0;
     }
-    wire::write16(rest, 0, Kind::RR);
-    wire::write32(rest, 2, page);
-    wire::write16(rest, 6, times);
+    rr_at(rest, 0, page, times);
     length::RR
+}
+
+// The same from an offset on, where there is room for it: nothing is judged.
+pub fn rr_at(out: &mut [u8], at: usize, page: u32, times: u16)
+    requires { ⌜ at + 8 ≤ length (now out) ⌝ }
+    ensures { λ _. ⌜ now (out .exit) ≡ placed (now (out .entry)) at (rrBytes page times) ⌝ }
+{
+    wire::write16(out, at, Kind::RR);
+    wire::write32(out, at + 2, page);
+    wire::write16(out, at + 6, times);
 }
 
 // An EV with no page or more than 256 is not written either.

@@ -24,7 +24,7 @@ put-run-requires : tie.Need-put-run-requires Inv-loop μ-loop
 put-run-requires c κs =
     let run = c .before .next-run in
     let taken = run .ensures in
-    (taken .some, taken .few, runs-fit _ _ _ _ _ _ _ (c .before .before .before .loop .inv) (run .result .page) (run .result .times) (run .result .left) taken)
+    (taken .few, runs-fit _ _ _ _ _ _ _ (c .before .before .before .loop .inv) (run .result .page) (run .result .times) (run .result .left) taken)
 
 add-i : tie.Need-add-i Inv-loop μ-loop
 add-i c =
