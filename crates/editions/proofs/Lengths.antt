@@ -12,7 +12,7 @@ use Rattle.records.specs.Bytes.{TraceEntry, rq, rr, traceEntryBytes, joined, re
 use Rattle.records.proofs.Files.{singles-stand}
 use Rattle.editions.specs.Editions.{PageRun, longestRr, longestRuns, runRecord, allRunRecords, oldBytes, newRecords, newBytes}
 use Rattle.editions.specs.Longest.{RecordFits, RecordsFit}
-use Rattle.editions.specs.inner.Turning.{oldBehind, newBehind}
+use Rattle.editions.specs.inner.Turning.{oldBehind, newBehind, Ends}
 use Rattle.editions.proofs.LongestRuns.{first-run, same-page}
 use Rattle.editions.proofs.RunRecords.{recordsOf, short-run, long-run, each-run, one-record}
 
@@ -137,21 +137,25 @@ same-costs page times rest some few =
     let more = longer-run page times n some few (omega arith) in
     omega arith
 
--- or are a run of their own
-other-costs : (page times : ℕ) (rest : List ℕ) → length (newBehind (replicate times page ++ rest)) ≡ length (joined traceEntryBytes (runRecord page times ∷ newRecords rest))
-    → length (newBehind (replicate times page ++ rest)) ≤ cost times + length (newBehind rest)
-other-costs page times rest e =
-    let l = size-first (runRecord page times) (newRecords rest) in
+-- or are a record of their own
+pub in-front : (page times : ℕ) (rest : List ℕ) → 0 < times → times ≤ longestRr → Ends page times rest
+    → length (newBehind (replicate times page ++ rest)) ≡ cost times + length (newBehind rest)
+in-front page times rest some few ends =
+    let one = ap size (one-record page times rest some few ends) ∙ size-first (runRecord page times) (newRecords rest) in
     let c = record-length page times in
     omega arith
 
 pub in-front-costs : (page times : ℕ) (rest : List ℕ) → 0 < times → times ≤ longestRr
     → length (newBehind (replicate times page ++ rest)) ≤ cost times + length (newBehind rest)
-in-front-costs page times [] some few = other-costs page times [] (ap size (one-record page times [] some few tt))
+in-front-costs page times [] some few = let l = in-front page times [] some few tt in omega arith
 in-front-costs page times (next ∷ rest) some few =
     cases (eqb page next)
     (λ e. let same = eqb-true page next e in rw (← same) (same-costs page times rest some few))
-    (λ e. other-costs page times (next ∷ rest) (ap size (one-record page times (next ∷ rest) some few (λ same. absurd (eqb-false page next e same)))))
+    (λ e. let l = in-front page times (next ∷ rest) some few (λ same. absurd (eqb-false page next e same)) in omega arith)
+
+pub no-run-left : newBehind [] ≡ []
+unfolding newRecords
+no-run-left = refl
 
 -- ---- no records of a trace are shorter
 

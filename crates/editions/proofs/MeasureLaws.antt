@@ -1,11 +1,10 @@
 -- The new edition measured in one pass: what is measured and what is to come make up the whole, whether the file is good or not.
 use Prim.Native.Nat.{ℕ, zero, suc, _+_, _*_, _-_, _≤_, _<_}
 use native.Mathlib.Omega.{arith}
-use mathlib.Core.List.{List, [], _∷_, _++_, append-assoc}
+use mathlib.Core.List.{List, [], _++_, append-assoc}
 use mathlib.Core.Path.{_≡_, refl, sym, ap, _∙_}
-use lib.ListN.{length, replicate, length-append}
+use lib.ListN.{length, replicate}
 use borrow.Author.Tests.{ne-eqb}
-use Rattle.records.specs.Bytes.{traceEntryBytes, joined}
 use Rattle.reading.specs.Answers.{traceAnswer}
 use Rattle.reading.specs.Files.{File, requestsFrom}
 use Rattle.reading.specs.Reading.{readTrace}
@@ -16,13 +15,13 @@ use Rattle.reading.proofs.Facts.{trace-says}
 use Rattle.reading.proofs.Walk.{requests-ended, requests-request}
 use Rattle.traces.specs.inner.Counting.{countedIn}
 use Rattle.traces.proofs.CountLaws.{Counting, counting-first, too-many, counting-next, counted-all, counted-damage, counted-says}
-use Rattle.editions.specs.Editions.{longestRr, runRecord, newRecords}
+use Rattle.editions.specs.Editions.{longestRr}
 use Rattle.editions.specs.declared.measure.LastRun.{LastRun}
 use Rattle.editions.specs.declared.measure.Measured.{Measured}
 use Rattle.editions.specs.inner.Measuring.{Added, lastLength, measuredIn}
-use Rattle.editions.specs.inner.Turning.{newBehind, Ends}
-use Rattle.editions.proofs.Lengths.{cost, record-length, cost-is}
-use Rattle.editions.proofs.RunRecords.{replicate-add, replicate-parts, one-record}
+use Rattle.editions.specs.inner.Turning.{newBehind}
+use Rattle.editions.proofs.Lengths.{cost, cost-is, no-run-left, in-front}
+use Rattle.editions.proofs.RunRecords.{replicate-add, replicate-parts, ends-at-other, ends-full}
 
 abbrev pub lastRun : (page times size : ℕ) → LastRun
 lastRun page times size = record { page = page; times = times; size = size }
@@ -45,33 +44,16 @@ last-low (suc n) =
 pub last-small : (times n : ℕ) → n ≡ lastLength times → n ≤ 8
 last-small times n e = let l = last-low times in omega arith
 
--- requests of one record in front of others
-in-front : (page times : ℕ) (rest : List ℕ) → 0 < times → times ≤ longestRr → Ends page times rest
-    → length (newBehind (replicate times page ++ rest)) ≡ cost times + length (newBehind rest)
-in-front page times rest some few ends =
-    let l = ap (λ (es : List _). length (joined traceEntryBytes es)) (one-record page times rest some few ends)
-    ∙ length-append (traceEntryBytes (runRecord page times)) (newBehind rest) in
-    let c = record-length page times in
-    omega arith
-
-nothing-behind : length (newBehind []) ≡ 0
-unfolding newRecords
-nothing-behind = refl
-
 -- the last run is all that is left
 alone : (page times : ℕ) → times ≤ longestRr → length (newBehind (replicate times page ++ [])) ≡ lastLength times
-alone page zero few = nothing-behind
+alone page zero few = ap length no-run-left
 alone page (suc n) few =
     let l = in-front page (suc n) [] (omega arith) few tt in
     let c = last-some (suc n) (λ z. omega arith) in
-    let none = nothing-behind in
+    let none = ap length no-run-left in
     omega arith
 
 -- ---- one record more
-
-others-behind : (page times other n : ℕ) (rest : List ℕ) → 0 < n → (other ≡ page → ⊥) → Ends page times (replicate n other ++ rest)
-others-behind page times other zero rest some differs = absurd (omega arith)
-others-behind page times other (suc n) rest some differs = λ e. absurd (differs (sym e))
 
 module _ (last : LastRun) (page times : ℕ) (some : 0 < times) (few : times ≤ longestRr) (last-few : last .times ≤ longestRr) where
   -- of another page: the last run ends
@@ -80,7 +62,7 @@ module _ (last : LastRun) (page times : ℕ) (some : 0 < times) (few : times ≤
   run-before zero e differs rest = omega arith
   run-before (suc n) e differs rest =
       let l = in-front (last .page) (suc n) (replicate times page ++ rest) (omega arith) (omega arith)
-      (others-behind (last .page) (suc n) page times rest some differs) in
+      (ends-at-other (last .page) (suc n) page times rest some differs) in
       let c = last-some (suc n) (λ z. omega arith) in
       omega arith
 
@@ -108,10 +90,6 @@ module _ (last : LastRun) (page times : ℕ) (some : 0 < times) (few : times ≤
           same = λ rest. ap (λ (l : List ℕ). last .size + length (newBehind l)) (joined-runs rest);
         }
 
-    full : (l : List ℕ) → Ends page longestRr l
-    full [] = tt
-    full (x ∷ l) = λ e. refl
-
     pub added-full : longestRr < last .times + times → Added last page times (lastRun page (last .times + times - longestRr) (last .size + 8))
     added-full h =
         let left = last .times + times - longestRr in
@@ -122,7 +100,7 @@ module _ (last : LastRun) (page times : ℕ) (some : 0 < times) (few : times ≤
               = joined-runs rest ∙ ap (λ (l : List ℕ). l ++ rest) (replicate-parts longestRr (last .times + times) page (omega arith))
               ∙ append-assoc (replicate longestRr page) (replicate left page) rest in
               let l = ap (λ (x : List ℕ). length (newBehind x)) parts in
-              let f = in-front page longestRr (replicate left page ++ rest) (omega arith) (omega arith) (full (replicate left page ++ rest)) in
+              let f = in-front page longestRr (replicate left page ++ rest) (omega arith) (omega arith) (ends-full page (replicate left page ++ rest)) in
               omega arith;
         }
 

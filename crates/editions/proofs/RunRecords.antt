@@ -117,6 +117,16 @@ fits-writable [] f = tt
 fits-writable (rq page ∷ es) f = (tt, fits-writable es (f .1))
 fits-writable (rr page times ∷ es) f = (f .0 .0, fits-writable es (f .1))
 
+-- ---- where the requests of one record end
+
+pub ends-at-other : (page times other n : ℕ) (rest : List ℕ) → 0 < n → (other ≡ page → ⊥) → Ends page times (replicate n other ++ rest)
+ends-at-other page times other zero rest some differs = absurd (omega arith)
+ends-at-other page times other (suc n) rest some differs = λ e. absurd (differs (sym e))
+
+pub ends-full : (page : ℕ) (rest : List ℕ) → Ends page longestRr rest
+ends-full page [] = tt
+ends-full page (next ∷ rest) = λ e. refl
+
 -- ---- the requests of one record in front of a trace
 
 -- the run ends with them

@@ -7,8 +7,7 @@ use mathlib.Core.Path.{_≡_, refl, sym, ap, _∙_}
 use lib.Dec.{ltb}
 use lib.ListN.{length, drop}
 use lib.Seq.{take-at}
-use borrow.Author.Tests.{le-ltb}
-use Rattle.lists.proofs.Choice.{cases, tests}
+use Rattle.lists.proofs.Choice.{cases}
 use Rattle.wire.specs.Numbers.{Bytes}
 use Rattle.wire.proofs.Numbers.{bytes-drop}
 use Rattle.records.specs.Bytes.{TraceEntry, rq, rr, rqBytes, rrBytes, kaBytes, traceEntryBytes, joined, TraceFileOf, RunsWritable, singles, traceBytes, allRequestsOf}
@@ -52,11 +51,18 @@ old-files k a entries o = ap (traceBytes k a) (only-singles entries o)
 
 -- ---- the output of a call
 
--- with room for it, it is the edition
-output-is : (edition : Edition) (k a : ℕ) (pages out : List ℕ) → length (edition k a pages) ≤ length out → output edition (whole k a pages) out ≡ edition k a pages
+-- where nothing is refused it is the edition
+output-is : (edition : Edition) (k a : ℕ) (pages out : List ℕ) → convertedOf edition (whole k a pages) out .refusal ≡ 0 → output edition (whole k a pages) out ≡ edition k a pages
 output-is edition k a pages out h =
-    let b = edition k a pages in
-    rw (le-ltb (length out) (length b) h) (take-at b (drop (length b) out) (length b) refl)
+    cases (ltb (length out) (length (edition k a pages)))
+    (λ short. absurd (no-eight (sym (eight short) ∙ h)))
+    (λ room. rw room (take-at (edition k a pages) (drop (length (edition k a pages)) out) (length (edition k a pages)) refl))
+  where
+    eight : ltb (length out) (length (edition k a pages)) ≡ true → convertedOf edition (whole k a pages) out .refusal ≡ 8
+    eight short = rw short
+
+    no-eight : _≡_ {A = ℕ} 8 0 → ⊥
+    no-eight q = omega arith
 
 module _ (limit : ℕ) (edition : Edition) (stands : Stands edition) where
   reads-back : (input : List ℕ) (k a : ℕ) (pages : List ℕ) → traceFile limit input ≡ whole k a pages → traceFile limit (edition k a pages) ≡ whole k a pages
@@ -67,29 +73,18 @@ module _ (limit : ℕ) (edition : Edition) (stands : Stands edition) where
   -- what stands for a file, by what the file is read as
   stands-for : (input out : List ℕ) (x : TraceFile) → traceFile limit input ≡ x → convertedOf edition x out .refusal ≡ 0 → traceFile limit (output edition x out) ≡ x
   stands-for input out (damaged number) e h = absurd (file-says limit input (damaged number) e .0 h)
-  stands-for input out (whole k a pages) e h =
-      cases (ltb (length out) (length (edition k a pages)))
-      (λ short. absurd (no-eight (sym (ap-refusal short) ∙ h)))
-      (λ room. ap (traceFile limit) (output-is edition k a pages out (omega tests)) ∙ reads-back input k a pages e)
-    where
-      ap-refusal : ltb (length out) (length (edition k a pages)) ≡ true → convertedOf edition (whole k a pages) out .refusal ≡ 8
-      ap-refusal short = rw short
-
-      no-eight : _≡_ {A = ℕ} 8 0 → ⊥
-      no-eight q = omega arith
+  stands-for input out (whole k a pages) e h = ap (traceFile limit) (output-is edition k a pages out h) ∙ reads-back input k a pages e
 
 -- ---- there and back
 
 old-new-old : (limit k a : ℕ) (pages old out other : List ℕ) → old ≡ oldBytes k a pages → traceFile limit old ≡ whole k a pages
-    → length old ≤ length out → length old ≤ length other → output oldBytes (traceFile limit (output newBytes (traceFile limit old) out)) other ≡ old
-old-new-old limit k a pages old out other is e room room′ =
-    let l = ap length is in
-    let short = new-never-longer k a pages in
-    let new : output newBytes (traceFile limit old) out ≡ newBytes k a pages
-    = ap (λ (x : TraceFile). output newBytes x out) e ∙ output-is newBytes k a pages out (omega arith) in
-    let back : traceFile limit (output newBytes (traceFile limit old) out) ≡ whole k a pages
-    = ap (traceFile limit) new ∙ reads-back limit newBytes new-file old k a pages e in
-    ap (λ (x : TraceFile). output oldBytes x other) back ∙ output-is oldBytes k a pages other (omega arith) ∙ sym is
+    → convertedOf newBytes (traceFile limit old) out .refusal ≡ 0 → convertedOf oldBytes (traceFile limit (output newBytes (traceFile limit old) out)) other .refusal ≡ 0
+    → output oldBytes (traceFile limit (output newBytes (traceFile limit old) out)) other ≡ old
+old-new-old limit k a pages old out other is e there back =
+    let new : traceFile limit (output newBytes (traceFile limit old) out) ≡ whole k a pages
+    = stands-for limit newBytes new-file old out (traceFile limit old) refl there ∙ e in
+    let taken = rw new at back in
+    ap (λ (x : TraceFile). output oldBytes x other) new ∙ output-is oldBytes k a pages other taken ∙ sym is
 
 -- ---- no file is shorter
 

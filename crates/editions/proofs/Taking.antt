@@ -1,5 +1,5 @@
 -- A run taken from what is left of a file: records of one page are added to it as long as requests are left, until another page or the longest RR ends it.
-use Prim.Native.Nat.{ℕ, zero, suc, _+_, _-_, _≤_, _<_}
+use Prim.Native.Nat.{ℕ, _+_, _-_, _≤_, _<_}
 use native.Mathlib.Omega.{arith}
 use mathlib.Core.List.{List, [], _∷_, _++_, append-assoc}
 use mathlib.Core.Path.{_≡_, refl, sym, ap, _∙_}
@@ -10,7 +10,7 @@ use Rattle.cursor.specs.declared.Rest.{Rest}
 use Rattle.cursor.proofs.Laws.{rest, at-a-record}
 use Rattle.editions.specs.Editions.{longestRr}
 use Rattle.editions.specs.inner.Turning.{Ends, Passing, RunTaken}
-use Rattle.editions.proofs.RunRecords.{replicate-add, replicate-parts}
+use Rattle.editions.proofs.RunRecords.{replicate-add, replicate-parts, ends-at-other, ends-full}
 
 -- ---- the run that is begun
 
@@ -67,11 +67,7 @@ grown file page times from more e same =
 -- the next request is of the page of the run that is begun
 other-next : (file : List ℕ) (page times : ℕ) (more : Rest) → 0 < more .times → (more .page ≡ page → ⊥) → Ends page times (requestsLeft file more .held)
 unfolding requestsLeft
-other-next file page times more some differs = starts (more .times) some
-  where
-    starts : (n : ℕ) → 0 < n → Ends page times (replicate n (more .page) ++ requestsFrom file (more .from) .held)
-    starts zero h = absurd (omega arith)
-    starts (suc n) h = λ e. absurd (differs (sym e))
+other-next file page times more some differs = ends-at-other page times (more .page) (more .times) (requestsFrom file (more .from) .held) some differs
 
 none-left : (page times : ℕ) (l : List ℕ) → length l ≡ 0 → Ends page times l
 none-left page times [] h = tt
@@ -126,12 +122,8 @@ module _ (file : List ℕ) (left : Rest) (n page times from : ℕ) (r : InRun fi
             small = omega arith;
             taken = r .same ∙ grown file page times from more (found .1) same
                 ∙ in-parts file page (times + more .times) (more .from) longestRr (omega arith);
-            ends = at-longest (requestsLeft file (rest page (times + more .times - longestRr) (more .from)) .held);
+            ends = ends-full page (requestsLeft file (rest page (times + more .times - longestRr) (more .from)) .held);
           }
-        where
-          at-longest : (l : List ℕ) → Ends page longestRr l
-          at-longest [] = tt
-          at-longest (x ∷ l) = λ e. refl
 
       pub run-grows : times + more .times ≤ longestRr → InRun file left n page (times + more .times) (more .from)
       run-grows h =

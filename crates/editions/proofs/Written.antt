@@ -13,9 +13,9 @@ use Rattle.reading.specs.Files.{File, requestsFrom}
 use Rattle.cursor.specs.Cursor.{Begun, requestsLeft}
 use Rattle.cursor.specs.declared.Rest.{Rest}
 use Rattle.cursor.proofs.Laws.{rest, at-a-record}
-use Rattle.editions.specs.Editions.{runRecord, newRecords}
+use Rattle.editions.specs.Editions.{runRecord}
 use Rattle.editions.specs.inner.Turning.{oldBehind, newBehind, Passing, RunTaken, Writing}
-use Rattle.editions.proofs.Lengths.{old-size}
+use Rattle.editions.proofs.Lengths.{old-size, no-run-left}
 use Rattle.editions.proofs.RunRecords.{one-record}
 
 -- ---- one behind the other
@@ -228,10 +228,6 @@ pub runs-first : (file : List ℕ) (n : ℕ) (out : List ℕ) → n ≡ length (
     → WritingRuns file n out out (rest 0 0 6) 6 0
 runs-first file n out e h =
     record { passing = passing-first file n e; writing = rw (start-is file) (writing-first out 6 (newBehind (requestsFrom file 6 .held)) h) }
-
-no-run-left : newBehind [] ≡ []
-unfolding newRecords
-no-run-left = refl
 
 module _ (file : List ℕ) (n : ℕ) (out₀ out : List ℕ) (left : Rest) (at i : ℕ) (w : WritingRuns file n out₀ out left at i) where
   module _ (page times : ℕ) (behind : Rest) (t : RunTaken file left page times behind) where

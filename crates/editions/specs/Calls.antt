@@ -49,10 +49,11 @@ ReadEnough bytes edition input out after converted =
 abbrev pub OutputInside : Converted → (after : List ℕ) → Type 0
 OutputInside converted after = (converted .length ≤ length after) × (converted .length ≡ length (take (converted .length) after))
 
--- so many lent bytes are enough for every output: a program never refuses with 8
+-- what the input itself is refused with, 0 if it is not
 abbrev pub fileRefusal : TraceFile → ℕ
 fileRefusal (whole k a pages) = 0
 fileRefusal (damaged number) = number
 
+-- so many lent bytes are enough for every output: a program never refuses with 8
 abbrev pub RoomEnough : (bytes : ℕ) → (input out : List ℕ) → Converted → Type 0
 RoomEnough bytes input out converted = bytes ≤ length out → converted .refusal ≡ fileRefusal (traceFile programRequests input)

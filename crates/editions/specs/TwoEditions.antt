@@ -19,9 +19,9 @@ pub record TwoEditions (limit : ℕ) : Type 0 where
       → traceFile limit (output newBytes (traceFile limit input) out) ≡ traceFile limit input
   -- an old file has no RR: whatever RQs it has, it is the old edition of their requests
   pub old-files : (k a : ℕ) (entries : List TraceEntry) → OnlySingles entries → traceBytes k a entries ≡ oldBytes k a (allRequestsOf entries)
-  -- "turning an old file to the new edition and back yields the old file's bytes": an old file that is accepted, and as many bytes as it has lent to both calls
+  -- "turning an old file to the new edition and back yields the old file's bytes": an old file that is accepted, wherever neither call is refused
   pub old-new-old : (k a : ℕ) (pages old out other : List ℕ) → old ≡ oldBytes k a pages → traceFile limit old ≡ whole k a pages
-      → length old ≤ length out → length old ≤ length other
+      → convertedOf newBytes (traceFile limit old) out .refusal ≡ 0 → convertedOf oldBytes (traceFile limit (output newBytes (traceFile limit old) out)) other .refusal ≡ 0
       → output oldBytes (traceFile limit (output newBytes (traceFile limit old) out)) other ≡ old
   -- "for each longest run of a page": the runs make up the trace, none can be longer, and there are no others like that
   pub runs-make-the-trace : (pages : List ℕ) → requestsOfRuns (longestRuns pages) ≡ pages

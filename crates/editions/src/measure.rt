@@ -35,7 +35,7 @@ fn last_length(times: u32) -> usize
     }
 }
 
-// So many requests for a page more.
+// So many requests for a page more. The bound on the size, far above 8 bytes for each of 65,536 requests, keeps the sums inside their type.
 fn with_record(last: LastRun, page: u32, times: u32) -> LastRun
     requires { ⌜ (last .times ≤ longestRr) × (last .size ≤ 1000000) × (0 < times) × (times ≤ longestRr) ⌝ }
     ensures { λ r. ⌜ Added last page times r ⌝ }

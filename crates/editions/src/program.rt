@@ -8,6 +8,7 @@ use crate::new_edition;
 use crate::old_edition;
 use records::length;
 
+// The limits of a program.
 pub struct Program {}
 
 impl Program {
@@ -21,6 +22,7 @@ impl Program {
     pub const OUTPUT: usize = length::KA + length::RQ * Program::LONGEST;
 }
 
+// What `to_old` prints for an input.
 pub fn to_old(input: &[u8], out: &mut [u8]) -> Converted
     ensures { λ r. ⌜ (r ≡ convertedOf oldBytes (traceFile programRequests (now (input .entry))) (now (out .entry)))
         × (now (out .exit) ≡ bytesAfter oldBytes (traceFile programRequests (now (input .entry))) (now (out .entry))) ⌝ }
@@ -31,6 +33,7 @@ pub fn to_old(input: &[u8], out: &mut [u8]) -> Converted
     old_edition::within(input, Program::LONGEST, out)
 }
 
+// What `to_new` prints for an input.
 pub fn to_new(input: &[u8], out: &mut [u8]) -> Converted
     ensures { λ r. ⌜ (r ≡ convertedOf newBytes (traceFile programRequests (now (input .entry))) (now (out .entry)))
         × (now (out .exit) ≡ bytesAfter newBytes (traceFile programRequests (now (input .entry))) (now (out .entry))) ⌝ }
