@@ -4,3 +4,4 @@ pub mod Leaves
 pub mod Sorting
 pub mod Stable
 pub mod Parts
+pub mod Laid

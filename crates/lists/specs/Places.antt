@@ -1,5 +1,5 @@
 -- Places in a list of pages: what the operations on lent lists do.
-use Prim.Native.Nat.{ℕ, suc, min}
+use Prim.Native.Nat.{ℕ, suc, _-_, min}
 use mathlib.Core.List.{List, [], _∷_, _++_}
 use lib.Dec.{eqb}
 use lib.ListN.{length, take, drop, replicate}
@@ -25,3 +25,7 @@ over from to i = take i from ++ drop i to
 -- as many pages of the first list as there is room for, over the front of the second
 abbrev pub pasted : (from to : List ℕ) → List ℕ
 pasted from to = take (length to) from ++ drop (length from) to
+
+-- the pages held, or what stands beside them, in a lent list: zeros from the count up to k, and the places past k keep their contents
+abbrev pub laid : (k : ℕ) → (held cache : List ℕ) → List ℕ
+laid k held cache = (held ++ replicate (k - length held) 0) ++ drop k cache

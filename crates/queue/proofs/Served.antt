@@ -9,14 +9,14 @@ use lib.ListN.{length, take, drop, length-append, length-drop}
 use lib.Seq.{length-take-le, take-take}
 use borrow.Author.Tests.{lt-ltb, le-ltb, ltb-true, ltb-false, eqb-true}
 use Rattle.lists.specs.Pages.{mem}
-use Rattle.lists.specs.Places.{place, movedToEnd}
+use Rattle.lists.specs.Places.{place, movedToEnd, laid}
 use Rattle.lists.proofs.Choice.{cases, tests}
 use Rattle.lists.proofs.Leaves.{mem-place, length-moved, moved-none, moved-toEnd}
 use Rattle.lists.proofs.Pages.{eraseAll-take}
 use Rattle.paging.specs.Policy.{afterHit}
 use Rattle.paging.specs.declared.Keeping.{Keeping}
 use Rattle.paging.specs.declared.Keeping.the-variants.{ByRequest, ByLoad}
-use Rattle.queue.specs.Serving.{laid, cacheServed, evictedServed, replyServed}
+use Rattle.queue.specs.Serving.{cacheServed, evictedServed, replyServed}
 use Rattle.queue.specs.declared.Reply.{Reply}
 use Rattle.queue.specs.declared.Run.{Run}
 use Rattle.queue.specs.declared.serving.Found.{Found}

@@ -14,6 +14,7 @@ use borrow.Author.Tests.{eq-eqb, eqb-true, ltb-true, ltb-false, ne-eqb, le-ltb, 
 use Rattle.lists.specs.Choice.{pick, _or_}
 use Rattle.lists.specs.Pages.{mem, toEnd, eraseAll, distinct, count, bit}
 use Rattle.lists.proofs.Choice.{cases, clash, and-l, and-r, or-none, by-test}
+use Rattle.lists.proofs.Laid.{length-laid}
 use Rattle.lists.proofs.Pages.{count-append, Once, distinct-once, once-distinct, once-snoc, once-toEnd, once-eraseAll, mem-eraseAll, toEnd-same, length-same, eraseAll-take}
 use Rattle.paging.specs.Front.{frontRule}
 use Rattle.paging.specs.Policy.{Kind, hit, load, bundled, kindOf, isLoad, isBundled, afterHit, serveBy, holdsBy, kindsBy}
@@ -28,7 +29,6 @@ use Rattle.queue.specs.Standing.{runOver, Stands, Call, State, emptyStat
 use Rattle.queue.specs.declared.Reply.{Reply}
 use Rattle.queue.specs.declared.Run.{Run}
 use Rattle.queue.specs.inner.Ready.{RequestReady, TraceReady}
-use Rattle.queue.proofs.Laying.{length-laid}
 use Rattle.queue.proofs.Refusals.{ready-of, well, trace-ready, totals-served}
 
 -- Serving keeps the pages held well formed

@@ -1,11 +1,12 @@
 -- One request served by a policy that evicts from the front of its list: the run record, the cache list with its count, and the evicted list
 -- after it. The pages held are the first `count` of the cache list. Kept by request they run from the least to the most recently requested page
 -- (document 01, "LRU"), kept by load from the oldest load to the newest (document 02, request 01).
-use Prim.Native.Nat.{ℕ, _+_, _-_}
+use Prim.Native.Nat.{ℕ, _+_}
 use mathlib.Core.List.{List, [], _++_}
-use lib.ListN.{length, take, drop, replicate}
+use lib.ListN.{length, take, drop}
 use Rattle.lists.specs.Choice.{pick}
 use Rattle.lists.specs.Pages.{bit}
+use Rattle.lists.specs.Places.{laid}
 use Rattle.paging.specs.Front.{frontRule}
 use Rattle.paging.specs.Policy.{Kind, kindOf, kindNumber, isBundled, isLoad, serveBy}
 use Rattle.paging.specs.declared.Keeping.{Keeping}
@@ -23,10 +24,6 @@ kindIn run count cache page = kindOf (run .k) page (take count cache)
 -- the pages held after it
 abbrev pub heldAfter : Keeping → Run → (count : ℕ) → (cache : List ℕ) → (page : ℕ) → List ℕ
 heldAfter keeping run count cache page = serveBy keeping (frontRule (run .a)) (run .k) page [] (take count cache)
-
--- these pages in a cache list: zeros from the count up to k, and the places past k keep their contents
-abbrev pub laid : (k : ℕ) → (held cache : List ℕ) → List ℕ
-laid k held cache = (held ++ replicate (k - length held) 0) ++ drop k cache
 
 -- The state after an accepted request
 

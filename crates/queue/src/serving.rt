@@ -3,8 +3,8 @@
 ghost use Prim.Native.Nat.{_-_, _≤_, _<_};
 ghost use mathlib.Core.Path.{_≡_};
 ghost use lib.ListN.{length, take};
-ghost use Rattle.lists.specs.Places.{movedToEnd};
-ghost use Rattle.queue.specs.Serving.{laid, countedRun, cacheServed, evictedServed, replyServed};
+ghost use Rattle.lists.specs.Places.{movedToEnd, laid};
+ghost use Rattle.queue.specs.Serving.{countedRun, cacheServed, evictedServed, replyServed};
 ghost use Rattle.queue.specs.Standing.{runOver};
 ghost use Rattle.queue.specs.inner.Cases.{foundIn, loaded, replyFor, evictedFor, movedFrom, cacheFor};
 ghost use Rattle.queue.specs.inner.Ready.{RequestReady, AnswerReady, SettleReady, CountersFit, TraceReady};

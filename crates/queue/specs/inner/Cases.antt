@@ -5,10 +5,10 @@ use lib.Dec.{ltb}
 use lib.ListN.{length, take, drop}
 use Rattle.lists.specs.Choice.{pick}
 use Rattle.lists.specs.Pages.{mem}
-use Rattle.lists.specs.Places.{place, movedToEnd}
+use Rattle.lists.specs.Places.{place, movedToEnd, laid}
 use Rattle.paging.specs.declared.Keeping.{Keeping}
 use Rattle.paging.specs.declared.Keeping.the-variants.{ByRequest, ByLoad}
-use Rattle.queue.specs.Serving.{countedRun, laid}
+use Rattle.queue.specs.Serving.{countedRun}
 use Rattle.queue.specs.declared.Reply.{Reply}
 use Rattle.queue.specs.declared.Run.{Run}
 use Rattle.queue.specs.declared.serving.Found.{Found}
