@@ -46,7 +46,7 @@ no-rows-formed k a = record {
 
 -- Counting what a request leaves
 
-count-filter {ℓ} : {A : Type ℓ} (f g : A → Bool) (xs : List A) → count f (filter g xs) ≡ count (λ x. f x and g x) xs
+pub count-filter {ℓ} : {A : Type ℓ} (f g : A → Bool) (xs : List A) → count f (filter g xs) ≡ count (λ x. f x and g x) xs
 count-filter f g [] = refl
 count-filter f g (x ∷ xs) =
     cases (g x)
@@ -57,7 +57,7 @@ count-filter f g (x ∷ xs) =
     both true = unfold _and_ in refl
     both false = unfold _and_ in refl
 
-count-over {ℓ} : {A B : Type ℓ} (f : B → Bool) (h : A → B) (xs : List A) → count f (map h xs) ≡ count (λ x. f (h x)) xs
+pub count-over {ℓ} : {A B : Type ℓ} (f : B → Bool) (h : A → B) (xs : List A) → count f (map h xs) ≡ count (λ x. f (h x)) xs
 count-over f h [] = refl
 count-over f h (x ∷ xs) = omega (arith, count-over f h xs)
 

@@ -11,4 +11,6 @@ pub mod Phases
 pub mod Factor
 pub mod Trailing
 pub mod Front
+pub mod Marked
+pub mod Marking
 pub mod Counterexamples
