@@ -13,6 +13,10 @@ rows-length [] (p ∷ ps) e = absurd (omega arith)
 rows-length (n ∷ ns) [] e = refl
 rows-length (n ∷ ns) (p ∷ ps) e = ap suc (rows-length ns ps (omega arith))
 
+pub pages-length : (rows : List Row) → length (pagesOf rows) ≡ length rows
+pages-length [] = refl
+pages-length (row ∷ rows) = ap suc (pages-length rows)
+
 pub rows-get : (ns ps : List ℕ) (i : ℕ) → length ps ≡ length ns → getD (rowsOf ns ps) i unused ≡ rowAt (getD ns i 0) (getD ps i 0)
 rows-get [] [] i e = refl
 rows-get [] (p ∷ ps) i e = absurd (omega arith)
