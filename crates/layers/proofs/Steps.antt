@@ -20,7 +20,7 @@ use Rattle.paging.specs.Rows.{rowsOf, numbersOf, pagesOf, unused, usedRows, tab
 use Rattle.paging.specs.Table.{numberIn, revealed, Tabled, nothingYet, tabledNext, tabledAfter}
 use Rattle.paging.proofs.Forming.{FormedRows, no-rows-formed, request-forms, one-row-more, used-table}
 use Rattle.paging.proofs.Refusals.{zero-pass, sizes-taken, trace-right, trace-taken}
-use Rattle.paging.proofs.Rows.{rows-back}
+use Rattle.paging.proofs.Rows.{pages-length, rows-back}
 use Rattle.paging.proofs.Rules.{layers-snoc, rules-length, rules-snoc, rules-add-up}
 use Rattle.paging.proofs.Table.{tabled-map, tabled-top, tabled-joins, tabled-snoc}
 use Rattle.layers.specs.Calls.{emptyRun, stateRefusal, rowsNext, ruleNext, ruleNumber, replyNext, requestRefusal, requestReply, tableNext, pagesNext, numbersNext}
@@ -93,10 +93,6 @@ after-well k a pos le trace places =
     (subst (λ s. FormedRows k a s (tabledAfter k a trace nothingYet .rows)) (tabled-top k a trace) (tabled-formed k a pos le trace))
     (omega arith))
 
-length-pages : (rows : List Row) → length (pagesOf rows) ≡ length rows
-length-pages [] = refl
-length-pages (row ∷ rows) = ap suc (length-pages rows)
-
 length-numbers : (rows : List Row) → length (numbersOf rows) ≡ length rows
 length-numbers [] = refl
 length-numbers (row ∷ rows) = ap suc (length-numbers rows)
@@ -111,11 +107,11 @@ pub table-stands : (k a : ℕ) → 1 ≤ a → a ≤ k → k ≤ 256 → (trace 
 table-stands k a pos le top trace places h =
     let rows = tabledAfter k a trace nothingYet .rows in
     let table = tableOf places rows in
-    let long : length (pagesOf table) ≡ places = length-pages table ∙ length-table places rows h in
+    let long : length (pagesOf table) ≡ places = pages-length table ∙ length-table places rows h in
     record {
       sizes = record { a-low = pos; a-high = le; k-high = top };
       run-is = refl;
-      one-length = length-pages table ∙ sym (length-numbers table);
+      one-length = pages-length table ∙ sym (length-numbers table);
       table-is = rw long (rows-back table);
       room = omega arith;
       well = rw (rows-back table) (after-well k a pos le trace places);

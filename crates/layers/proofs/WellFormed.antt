@@ -16,7 +16,7 @@ use Rattle.lists.proofs.Pages.{count-length}
 use Rattle.lists.proofs.Sorting.{row-eq, row-split}
 use Rattle.paging.specs.Rows.{rowsOf, pagesOf, unused, usedRows, tableOf}
 use Rattle.paging.specs.Table.{aboveZero, sizeOf}
-use Rattle.paging.proofs.Rows.{pages-back}
+use Rattle.paging.proofs.Rows.{pages-length, pages-back}
 use Rattle.layers.specs.Formed.{isUnused, follows, ordered, orderedBehind, present, noneAbove, singleAbove, tableFormed, countsFormed, layersWellFormed}
 use Rattle.layers.specs.declared.LayersRun.{LayersRun}
 use Rattle.layers.specs.inner.Sizes.{timesIn, Tallied, presentIn, singleIn, numbered, sizesFormed}
@@ -235,10 +235,6 @@ ordered-shape (x ∷ xs) o = placed x xs (and-l _ _ o) (and-r _ _ o)
 pages-append : (xs ys : List Row) → pagesOf (xs ++ ys) ≡ pagesOf xs ++ pagesOf ys
 pages-append [] ys = refl
 pages-append (x ∷ xs) ys = ap (λ rest. x .page ∷ rest) (pages-append xs ys)
-
-pages-length : (rows : List Row) → length (pagesOf rows) ≡ length rows
-pages-length [] = refl
-pages-length (x ∷ xs) = ap suc (pages-length xs)
 
 used-count : (ns ps : List ℕ) → length ps ≡ length ns → count (λ n. ltb 0 n) ns ≡ length (usedRows (rowsOf ns ps))
 used-count [] ps e = refl

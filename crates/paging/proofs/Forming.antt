@@ -62,7 +62,7 @@ count-over f h [] = refl
 count-over f h (x ∷ xs) = omega (arith, count-over f h xs)
 
 -- a row of another page that is not dropped, and then passes the test
-abbrev stays : LayerRule → (k a i p : ℕ) → (Row → Bool) → Row → Bool
+abbrev pub stays : LayerRule → (k a i p : ℕ) → (Row → Bool) → Row → Bool
 stays rule k a i p f row =
     (f (renumberedRow rule k a i row) and aboveZero (renumberedRow rule k a i row)) and not (eqb (row .page) p)
 
@@ -74,7 +74,7 @@ others-count rule k a i p f rows =
     ∙ count-over (λ row. f row and aboveZero row) (renumberedRow rule k a i) rest
     ∙ count-filter (λ row. f (renumberedRow rule k a i row) and aboveZero (renumberedRow rule k a i row)) (λ row. not (eqb (row .page) p)) rows
 
-after-count : (rule : LayerRule) (k a i s p : ℕ) (f : Row → Bool) (rows : List Row)
+pub after-count : (rule : LayerRule) (k a i s p : ℕ) (f : Row → Bool) (rows : List Row)
     → count f (rowsBy rule k a i s p rows) ≡ count (stays rule k a i p f) rows + bit (f (rowAt (topAfter rule k a s) p))
 after-count rule k a i s p f rows =
     omega (arith, count-snoc f (othersAfter rule k a i p rows) (rowAt (topAfter rule k a s) p), others-count rule k a i p f rows)
@@ -98,7 +98,7 @@ one-row-more k a s p rows =
 -- The requested page's own row
 
 -- a page with a number has a row with it
-own-row : (p n : ℕ) (rows : List Row) → numberIn rows p ≡ n → 0 < n → 0 < count (λ row. eqb (row .number) n and eqb (row .page) p) rows
+pub own-row : (p n : ℕ) (rows : List Row) → numberIn rows p ≡ n → 0 < n → 0 < count (λ row. eqb (row .number) n and eqb (row .page) p) rows
 own-row p n [] e h = absurd (omega arith)
 own-row p n (x ∷ xs) e h =
     cases (eqb (x .number) n and eqb (x .page) p)
@@ -123,7 +123,7 @@ no-row p (x ∷ xs) e =
     (λ g. omega (arith, bit-false _ (and-false-l (eqb (x .page) p) (not (eqb (x .number) 0)) g), no-row p xs (omega arith)))
 
 -- all rows of a page that is there once have its number
-own-only : (p : ℕ) (rows : List Row) → count (λ row. eqb (row .page) p) rows ≤ 1
+pub own-only : (p : ℕ) (rows : List Row) → count (λ row. eqb (row .page) p) rows ≤ 1
     → count (λ row. eqb (row .page) p and not (eqb (row .number) (numberIn rows p))) rows ≡ 0
 own-only p rows o =
     let i = numberIn rows p in
@@ -137,7 +137,7 @@ own-only p rows o =
       count-by (λ row. eqb (row .page) p) (λ row. eqb (row .number) i) rows,
     ))
 
-number-most : (s p : ℕ) (rows : List Row) → count (λ row. ltb s (row .number)) rows ≡ 0 → numberIn rows p ≤ s
+pub number-most : (s p : ℕ) (rows : List Row) → count (λ row. ltb s (row .number)) rows ≡ 0 → numberIn rows p ≤ s
 number-most s p rows b =
     let i = numberIn rows p in
     cases (ltb s i)
@@ -339,6 +339,20 @@ module _ (rule : LayerRule) (k a s p : ℕ) (rows : List Row) (F : FormedRows k 
         single = others-single (k - a) (M .thin) (F .single);
         few-single = λ h j g. let few = M .thin-few h in others-single 0 (few .1) (F .few-single (few .0)) j g;
       }
+
+-- the requested page is alone in the last layer
+pub last-single : (k a s p : ℕ) (rows : List Row) → 1 ≤ a → a ≤ k → FormedRows k a s rows
+    → sizeOf (topAfter (ruleIn k s p rows) k a s) (rowsAfter k a s p rows) ≡ 1
+last-single k a s p rows pos le F =
+    let rule = ruleIn k s p rows in
+    let i = numberIn rows p in
+    let top = topAfter rule k a s in
+    omega (
+      arith,
+      after-count rule k a i s p (λ row. eqb (row .number) top) rows,
+      bit-true (eqb top top) (eq-eqb top top refl),
+      others-low rule k a s p rows F (moves k a i s pos le (number-most s p rows (F .below)) (F .most)) (λ row. eqb (row .number) top) (λ row t. omega tests),
+    )
 
 -- a request keeps the rows as document 01 asks
 pub request-forms : (k a s p : ℕ) (rows : List Row) → 1 ≤ a → a ≤ k → FormedRows k a s rows

@@ -6,3 +6,5 @@ pub mod Rules
 pub mod Rows
 pub mod Forming
 pub mod Possible
+pub mod LayerSizes
+pub mod Revealed
