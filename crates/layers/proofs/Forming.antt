@@ -1,4 +1,4 @@
--- A table of rows that are as document 01 asks is well formed.
+-- A table of rows that are as document 01 asks is well formed, and the used rows of a well-formed table are such rows.
 use Prim.Native.Nat.{ℕ, zero, suc, _-_, _≤_, _<_}
 use native.Mathlib.Omega.{arith}
 use mathlib.Core.Bool.{Bool, true, false}
@@ -6,18 +6,20 @@ use mathlib.Core.List.{List, [], _∷_, _++_}
 use mathlib.Core.Path.{_≡_, refl, sym, ap, _∙_}
 use lib.Dec.{eqb, leb, ltb}
 use lib.ListN.{length, replicate}
-use borrow.Author.Tests.{ltb-false, leb-false, lt-ltb, le-leb, eq-eqb}
+use borrow.Author.Tests.{ltb-true, ltb-false, leb-true, leb-false, lt-ltb, le-leb, eqb-true, eq-eqb}
 use Rattle.lists.specs.Choice.{_and_, _or_}
 use Rattle.lists.specs.Pages.{count, distinct}
 use Rattle.lists.specs.Sorting.{Row, rowBefore, Sorted}
-use Rattle.lists.proofs.Choice.{tests, cases, and-i, or-l, or-r, bit-true, bit-false, eqb-self, eqb-sym}
-use Rattle.lists.proofs.Pages.{count-append, count-ext, once-distinct}
+use Rattle.lists.proofs.Choice.{tests, cases, split, clash, and-i, and-l, and-r, or-l, or-r, or-split, bit-true, bit-false, eqb-self, eqb-sym}
+use Rattle.lists.proofs.Pages.{count-append, count-ext, distinct-once, once-distinct}
 use Rattle.lists.proofs.Sorting.{row-tie}
 use Rattle.paging.specs.Rows.{pagesOf, unused, usedRows, tableOf}
 use Rattle.paging.specs.Table.{aboveZero, sizeOf}
 use Rattle.paging.proofs.Forming.{FormedRows, used-table}
 use Rattle.layers.specs.Formed.{isUnused, follows, orderedBehind, ordered, present, singleAbove, tableFormed}
 use Rattle.layers.specs.declared.LayersRun.{LayersRun}
+use Rattle.layers.proofs.Order.{ordered-sorted}
+use Rattle.layers.proofs.WellFormed.{facts}
 
 count-unused : (f : Row → Bool) (m : ℕ) → f unused ≡ false → count f (replicate m unused) ≡ 0
 count-unused f zero e = refl
@@ -94,3 +96,69 @@ formed-table run places rows F le =
     (cases (ltb limit s)
     (λ e. or-l _ _ e)
     (λ e. or-r _ _ (single-in 0 s table (λ j h. omega (arith, size j h, F .few-single (ltb-false _ _ e) j h)))))))))))
+
+-- The other way round
+
+count-used : (f : Row → Bool) (rows : List Row) → ((row : Row) → f row ≡ true → aboveZero row ≡ true) → count f (usedRows rows) ≡ count f rows
+count-used f [] h = refl
+count-used f (x ∷ xs) h =
+    cases (aboveZero x)
+    (λ e. rw e (omega (arith, count-used f xs h)))
+    (λ e. rw e (cases (f x) (λ g. clash _ (h x g) e) (λ g. omega (arith, bit-false (f x) g, count-used f xs h))))
+
+none-at-zero : (rows : List Row) → sizeOf 0 (usedRows rows) ≡ 0
+none-at-zero [] = refl
+none-at-zero (x ∷ xs) =
+    cases (ltb 0 (x .number))
+    (λ e. rw e (omega (arith, bit-false (eqb (x .number) 0) (omega tests), none-at-zero xs)))
+    (λ e. rw e (none-at-zero xs))
+
+present-at : (s : ℕ) (rows : List Row) → present s rows ≡ true → (j : ℕ) → 0 < j → j ≤ s → 0 < sizeOf j rows
+present-at zero rows h j g l = absurd (omega arith)
+present-at (suc i) rows h j g l =
+    cases (eqb j (suc i))
+    (λ e. rw (eqb-true j (suc i) e) (ltb-true _ _ (and-l _ _ h)))
+    (λ e. present-at i rows (and-r _ _ h) j g (omega tests))
+
+single-at : (limit s : ℕ) (rows : List Row) → singleAbove limit s rows ≡ true → (j : ℕ) → limit < j → j ≤ s → 0 < j → sizeOf j rows ≤ 1
+single-at limit zero rows h j g l z = absurd (omega arith)
+single-at limit (suc i) rows h j g l z =
+    cases (eqb j (suc i))
+    (λ e. let same : j ≡ suc i = eqb-true j (suc i) e in
+    rw same (split (or-split _ _ (and-l _ _ h)) (λ low. let g′ : suc i ≤ limit = leb-true (suc i) limit low in absurd (omega arith)) (λ one. leb-true _ _ one)))
+    (λ e. single-at limit i rows (and-r _ _ h) j g (omega tests) z)
+
+none-past : (s : ℕ) (rows : List Row) → count (λ row. ltb s (row .number)) rows ≡ 0 → (j : ℕ) → s < j → sizeOf j rows ≡ 0
+none-past s [] h j g = refl
+none-past s (x ∷ xs) h j g =
+    let low : ltb s (x .number) ≡ false = cases (ltb s (x .number)) (λ e. absurd (omega (arith, bit-true _ e))) (λ e. e) in
+    let other : eqb (x .number) j ≡ false = omega tests in
+    omega (arith, bit-false _ low, bit-false _ other, none-past s xs (omega (arith, bit-false _ low)) j g)
+
+pub formed-rows : (run : LayersRun) (rows : List Row) → tableFormed run rows ≡ true → FormedRows (run .k) (run .a) (run .s) (usedRows rows)
+formed-rows run rows w =
+    let F = facts run rows w in
+    let s = run .s in
+    let size : (j : ℕ) → 0 < j → sizeOf j (usedRows rows) ≡ sizeOf j rows =
+    λ j h. count-used (λ row. eqb (row .number) j) rows (λ row e. omega tests) in
+    let none : count (λ row. ltb s (row .number)) rows ≡ 0 = eqb-true _ 0 (F .none-higher) in
+    let below : count (λ row. ltb s (row .number)) (usedRows rows) ≡ 0 = count-used (λ row. ltb s (row .number)) rows (λ row e. omega tests) ∙ none in
+    let at-most : (limit : ℕ) → singleAbove limit s rows ≡ true → (j : ℕ) → limit < j → sizeOf j (usedRows rows) ≤ 1 =
+    λ limit h j g. cases (leb j s)
+    (λ e. omega (arith, size j (omega arith), single-at limit s rows h j g (leb-true _ _ e) (omega arith)))
+    (λ e. omega (arith, none-past s (usedRows rows) below j (leb-false _ _ e))) in
+    record {
+      above = none-at-zero rows;
+      below = below;
+      once = λ q. omega (
+        arith,
+        distinct-once (pagesOf (usedRows rows)) (F .once) q,
+        count-pages (eqb q) (usedRows rows),
+        count-ext (λ row. eqb q (row .page)) (λ row. eqb (row .page) q) (usedRows rows) (λ row. eqb-sym q (row .page)),
+      );
+      sorted = ordered-sorted rows (F .in-order);
+      all-present = λ j h g. omega (arith, size j h, present-at s rows (F .all-present) j h g);
+      most = leb-true _ _ (F .s-low);
+      single = at-most (run .k - run .a) (F .single-high);
+      few-single = λ few j h. at-most 0 (split (or-split _ _ (F .single-few)) (λ e. absurd (omega (arith, few, ltb-true (run .k - run .a) s e))) (λ e. e)) j h;
+    }

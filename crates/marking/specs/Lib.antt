@@ -1,2 +1,3 @@
 pub mod Marking
+pub mod Lists
 pub mod Rdm

@@ -1,0 +1,9 @@
+pub mod Formed
+pub mod Points
+pub mod Refusals
+pub mod Tables
+pub mod Stepping
+pub mod Requests
+pub mod Blank
+pub mod Onward
+pub mod Tracing

@@ -1,0 +1,5 @@
+pub mod Lent
+pub mod Formed
+pub mod Calls
+pub mod Traces
+pub mod inner

@@ -1,0 +1,239 @@
+// One request on a state that was judged, or that a trace has led to: the page is found in the layer table, its priority is worked out, then the table
+// and the cached pages are moved on. No check here but for room in the table, and that before anything is written.
+ghost use Prim.Native.Nat.{_+_, _*_, _-_, _≤_, _<_};
+ghost use mathlib.Core.Path.{_≡_};
+ghost use lib.Dec.{eqb, leb, ltb};
+ghost use lib.ListN.{length, getD};
+ghost use Rattle.lists.specs.Choice.{pick, _and_};
+ghost use Rattle.lists.specs.Pages.{bit};
+ghost use Rattle.paging.specs.Layers.{isJoin};
+ghost use Rattle.paging.specs.Refusals.{fullCounter, largestK};
+ghost use Rattle.table.specs.Serving.{ruleOf};
+ghost use Rattle.layers.specs.Calls.{runCounted, replyBy};
+ghost use Rattle.layers.specs.inner.Counting.{CountersFit};
+ghost use Rattle.mark.specs.Lent.{lent};
+ghost use Rattle.mark.specs.inner.Stepping.{StepReady, SteppedTo, AnswerReady, answeredBy};
+use crate::MarkReply;
+use crate::MarkRun;
+use layers::LayersRun;
+use table::RuleApplied;
+
+// What stands beside the lists: s, the time t, how many pages are revealed, the used places of the table, and the count of cached pages.
+pub(crate) struct Point {
+    pub s: u32,
+    pub t: u32,
+    pub revealed: usize,
+    pub used: usize,
+    pub count: usize,
+}
+
+// What a request did: whether the table had no room, so that nothing was done; the layers' rule, the state after it, and 0, 1 or 2.
+pub(crate) struct Stepped {
+    pub full: bool,
+    pub rule: RuleApplied,
+    pub after: Point,
+    pub answer: u32,
+}
+
+// Whether the page at a place of the table is revealed: it is one of the last so many used places.
+fn is_revealed(at: usize, used: usize, revealed: usize) -> bool
+    ensures { λ r. ⌜ r ≡ (leb (used - revealed) at and ltb at used) ⌝ }
+{
+    if at < used {
+        return used - at <= revealed;
+    }
+    false
+}
+
+// The time: it rises at each request of a page that was not revealed.
+fn time_after(t: u32, revealed: bool) -> u32
+    requires { ⌜ t < fullCounter ⌝ }
+    ensures { λ r. ⌜ r ≡ pick revealed t (t + 1) ⌝ }
+{
+    if revealed {
+        return t;
+    }
+    t + 1
+}
+
+// t0 of the page: as it stands beside its place in the table, and the present time where it has none.
+fn t0_of(times: &[u32], at: usize, used: usize, t: u32) -> u32
+    requires { ⌜ used ≤ length (now times) ⌝ }
+    ensures { λ r. ⌜ r ≡ pick (ltb at used) (getD (now (times .entry)) at 0) t ⌝ }
+{
+    if at < used {
+        return times[at];
+    }
+    t
+}
+
+// RDM: nine times the time less t0.
+fn priority(t: u32, t0: u32) -> u64
+    requires { ⌜ t0 ≤ t ⌝ }
+    ensures { λ r. ⌜ r ≡ 9 * t - t0 ⌝ }
+{
+    9 * (t as u64) - t0 as u64
+}
+
+// Whether all marks are cleared: the layers' rule is 1b.
+fn clears(rule: RuleApplied) -> bool
+    ensures { λ r. ⌜ r ≡ isJoin (ruleOf rule) ⌝ }
+{
+    match rule {
+        RuleApplied::Append => false,
+        RuleApplied::Join => true,
+        RuleApplied::Lift => false,
+    }
+}
+
+// How many pages are revealed after a request: one after a 1b, else one more if the page was not.
+fn revealed_after(joined: bool, revealed: bool, before: usize) -> usize
+    requires { ⌜ before < 65536 ⌝ }
+    ensures { λ r. ⌜ r ≡ pick joined 1 (pick revealed before (before + 1)) ⌝ }
+{
+    if joined {
+        return 1;
+    }
+    if revealed {
+        return before;
+    }
+    before + 1
+}
+
+// One request.
+pub(crate) fn step(
+    k: u32,
+    a: u32,
+    point: Point,
+    page: u32,
+    cache: &mut [u32],
+    marks: &mut [u32],
+    priorities: &mut [u64],
+    evicted: &mut [u32],
+    pages: &mut [u32],
+    numbers: &mut [u32],
+    times: &mut [u32],
+) -> Stepped
+    requires { ⌜ StepReady k a point (lent (now cache) (now marks) (now priorities) (now evicted) (now pages) (now numbers) (now times)) ⌝ }
+    ensures { λ r. ⌜ SteppedTo k a page point
+        (lent (now (cache .entry)) (now (marks .entry)) (now (priorities .entry)) (now (evicted .entry))
+        (now (pages .entry)) (now (numbers .entry)) (now (times .entry)))
+        (lent (now (cache .exit)) (now (marks .exit)) (now (priorities .exit)) (now (evicted .exit))
+        (now (pages .exit)) (now (numbers .exit)) (now (times .exit))) r ⌝ }
+{
+    let used = point.used;
+    let at = lists::find(&pages[..used], page);
+    let revealed = is_revealed(at, used, point.revealed);
+    let t = time_after(point.t, revealed);
+    let rank = priority(t, t0_of(times, at, used, t));
+    let moved = timed::step(k, a, point.s, page, t, at, used, pages, numbers, times);
+    let rule = moved.rule;
+    if moved.full {
+        return Stepped {
+            full: true,
+            rule,
+            after: point,
+            answer: 0,
+        };
+    }
+    let joined = clears(rule);
+    let served = marked::serve(
+        k as usize,
+        a as usize,
+        point.count,
+        page,
+        rank,
+        joined,
+        cache,
+        marks,
+        priorities,
+        evicted,
+    );
+    let after = Point {
+        s: moved.s,
+        t,
+        revealed: revealed_after(joined, revealed, point.revealed),
+        used: moved.used,
+        count: served.count,
+    };
+    Stepped {
+        full: false,
+        rule,
+        after,
+        answer: served.answer,
+    }
+}
+
+// The layers' record after one more request, with s after it and what it adds to the three counts. A join is a bundle.
+fn layers_counted(run: LayersRun, s: u32, appends: u32, joins: u32, lifts: u32) -> LayersRun
+    requires { ⌜ CountersFit run × (appends ≤ 1) × (joins ≤ 1) × (lifts ≤ 1) ⌝ }
+    ensures { λ r. ⌜ r ≡ runCounted run s appends joins lifts ⌝ }
+{
+    LayersRun {
+        k: run.k,
+        a: run.a,
+        requests: run.requests + 1,
+        evictions: run.evictions + joins,
+        s,
+        appends: run.appends + appends,
+        joins: run.joins + joins,
+        lifts: run.lifts + lifts,
+    }
+}
+
+// The same by the rule that applied.
+fn layers_after(run: LayersRun, rule: RuleApplied, s: u32) -> LayersRun
+    requires { ⌜ CountersFit run ⌝ }
+    ensures { λ r. ⌜ r ≡ replyBy (ruleOf rule) s run .run ⌝ }
+{
+    match rule {
+        RuleApplied::Append => layers_counted(run, s, 1, 0, 0),
+        RuleApplied::Join => layers_counted(run, s, 0, 1, 0),
+        RuleApplied::Lift => layers_counted(run, s, 0, 0, 1),
+    }
+}
+
+// The loads and bundles of a request that answered 0, 1 or 2.
+pub(crate) fn loads(answer: u32) -> u32
+    ensures { λ r. ⌜ r ≡ bit (ltb 0 answer) ⌝ }
+{
+    if answer > 0 {
+        return 1;
+    }
+    0
+}
+
+pub(crate) fn bundles(answer: u32) -> u32
+    ensures { λ r. ⌜ r ≡ bit (eqb answer 2) ⌝ }
+{
+    if answer == 2 {
+        return 1;
+    }
+    0
+}
+
+// What a request that was served answers.
+pub(crate) fn answered(run: MarkRun, stepped: Stepped) -> MarkReply
+    requires { ⌜ AnswerReady run × (stepped .after .count ≤ largestK) ⌝ }
+    ensures { λ r. ⌜ r ≡ answeredBy run stepped ⌝ }
+{
+    let after = stepped.after;
+    let rule = stepped.rule;
+    let before = run.layers;
+    let layers = layers_after(before, rule, after.s);
+    let run = MarkRun {
+        k: run.k,
+        a: run.a,
+        requests: run.requests + 1,
+        loads: run.loads + loads(stepped.answer),
+        evictions: run.evictions + bundles(stepped.answer),
+        t: after.t,
+        layers,
+    };
+    MarkReply {
+        refusal: 0,
+        run,
+        count: after.count as u32,
+        answer: stepped.answer,
+    }
+}

@@ -1,0 +1,4 @@
+mod Follow
+mod JoiningLaws
+mod Rising
+mod LiftingLaws
