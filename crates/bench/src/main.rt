@@ -1,4 +1,4 @@
-// The bench (document 01, "The eight-request shift"): reads a trace on standard input and prints five lines, or `refused` and a number.
+// The bench (document 01, "The eight-request shift"): reads a trace on standard input and prints six lines, or `refused` and a number.
 // All that matters is in the crate `report`.
 use report::Report;
 use streams::Output;
@@ -24,6 +24,10 @@ fn figures(out: Output, r: Report) {
     let out = out.text(b"fifo")
         .field(r.fifo.bundles)
         .field(r.fifo.loads)
+        .end_line();
+    let out = out.text(b"mark")
+        .field(r.mark.bundles)
+        .field(r.mark.loads)
         .end_line();
     out.text(b"layers")
         .field(r.layers.bundles)

@@ -1,18 +1,23 @@
 -- A table that is all unused: the look at its places, and the refusals that are judged before the first request of a trace.
-use Prim.Native.Nat.{ℕ, suc, _+_, _≤_, _<_}
+use Prim.Native.Nat.{ℕ, zero, suc, _+_, _≤_, _<_}
 use native.Mathlib.Numerals.{add-one}
 use native.Mathlib.Omega.{arith}
 use mathlib.Core.Bool.{Bool, true, false, not, _||_}
 use mathlib.Core.List.{List, [], _∷_}
 use mathlib.Core.Path.{_≡_, refl, sym, ap, _∙_}
 use lib.Dec.{eqb}
-use lib.ListN.{length, drop, getD, replicate, drop-of-length-le}
+use lib.ListN.{length, drop, getD, replicate, length-replicate, drop-of-length-le}
 use lib.Seq.{drop-cons}
 use borrow.Author.Tests.{eqb-true, eq-eqb, ne-eqb, not-false}
 use Rattle.lists.specs.Choice.{_and_, _or_}
 use Rattle.lists.proofs.Choice.{and-i, and-l, and-r, and-false-l, and-false-r, or-l, or-r, or-none, or-none-l, or-none-r}
 use Rattle.paging.specs.Refusals.{refuse, traceRefusal, SizesRight, longestTrace}
 use Rattle.paging.proofs.Refusals.{zero-pass, Chain, chain-end, chain-refuse, chain-behind, chain-pass, chain-fall, trace-chain, trace-right, trace-fall, trace-pass, trace-taken}
+use Rattle.paging.specs.Table.{nothingYet}
+use Rattle.layers.specs.Traces.{overflows}
+use Rattle.layers.proofs.Steps.{no-overflow}
+use Rattle.marking.specs.Marking.{markBundles, markLoads}
+use Rattle.marking.specs.Rdm.{rdm}
 use Rattle.mark.specs.Traces.{Table, tableWith, allZero, earlyRefusal, overRefusal, refusedTotals, totalsOf, tableOver, OverTrace}
 use Rattle.mark.specs.declared.MarkTotals.{MarkTotals}
 use Rattle.mark.specs.declared.trace.Served.{Served}
@@ -176,3 +181,30 @@ module _ (k a : ℕ) (trace : List ℕ) (x : Table) where
       over-done f =
           let none : overRefusal k a trace x ≡ 0 = refusal-is ∙ rw f refl in
           (rw (none, told .bundles-told f, told .loads-told f) refl, told .table-told f ∙ rw none refl)
+
+-- A trace that is not too long, on a table of zeros with a place for each request, is not refused
+
+zeros-zero : (n : ℕ) → allZero (replicate n 0) ≡ true
+unfolding _and_
+zeros-zero zero = refl
+zeros-zero (suc n) = zeros-zero n
+
+pub trace-marked : (k a : ℕ) (trace : List ℕ) (places : ℕ) → SizesRight k a → length trace ≤ 65536 → length trace ≤ places
+    → totalsOf k a trace (tableWith (replicate places 0) (replicate places 0) (replicate places 0))
+    ≡ record { refusal = 0; bundles = markBundles (rdm k a) k a trace; loads = markLoads (rdm k a) k a trace }
+unfolding totalsOf
+trace-marked k a trace places right short h =
+    let x = tableWith (replicate places 0) (replicate places 0) (replicate places 0) in
+    let size : length (replicate {A = ℕ} places 0) ≡ places = length-replicate places 0 in
+    let fits : overflows k a (length (replicate {A = ℕ} places 0)) trace nothingYet ≡ false = rw size (no-overflow k a places trace h) in
+    let none : overRefusal k a trace x ≡ 0 =
+    begun k a trace x (record {
+      sizes = right;
+      short = short;
+      numbers-even = refl;
+      times-even = refl;
+      pages-zero = zeros-zero places;
+      numbers-zero = zeros-zero places;
+      times-zero = zeros-zero places;
+    }) _ ∙ rw fits refl in
+    rw none refl

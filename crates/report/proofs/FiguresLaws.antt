@@ -19,6 +19,12 @@ use Rattle.queue.specs.declared.Totals.{Totals}
 use Rattle.layers.specs.Traces.{traceTotals}
 use Rattle.layers.specs.declared.LayersTotals.{LayersTotals}
 use Rattle.layers.proofs.Steps.{trace-accepted, trace-counts}
+use Rattle.marking.specs.Marking.{markBundles, markLoads}
+use Rattle.marking.specs.Rdm.{rdm}
+use Rattle.mark.specs.Traces.{Table, tableWith}
+use Rattle.mark.specs.Traces as markTotals
+use Rattle.mark.specs.declared.MarkTotals.{MarkTotals}
+use Rattle.mark.proofs.Blank.{trace-marked}
 use Rattle.min.specs.Calls.{countsOf}
 use Rattle.min.specs.declared.Counts.{Counts}
 use Rattle.report.specs.Calls.{counts, layersCounts, figures, revealedAfter, refusedReport, reported, reportOf}
@@ -37,8 +43,16 @@ module _ (k a : ℕ) (trace : List ℕ) (right : SizesRight k a) (short : length
       trace-counts k a trace blank blank (trace-accepted k a (right .a-low) (right .a-high) (right .k-high) trace (omega arith) 4096 short)
       ∙ rw (tabled-top k a trace) refl
 
-  pub figures-told : (m : Counts) (l f : Totals) (y : LayersTotals)
-      → m ≡ countsOf k a trace → l ≡ totalsOf ByRequest k a trace → f ≡ totalsOf ByLoad k a trace → y ≡ traceTotals k a trace blank blank
+  -- a table with a place for each request, all unused
+  abbrev blankTable : Table
+  blankTable = tableWith blank blank blank
+
+  marks-take : markTotals.totalsOf k a trace blankTable
+      ≡ record { refusal = 0; bundles = markBundles (rdm k a) k a trace; loads = markLoads (rdm k a) k a trace }
+  marks-take = trace-marked k a trace 4096 right (omega arith) short
+
+  pub figures-told : (m : Counts) (l f : Totals) (n : MarkTotals) (y : LayersTotals)
+      → m ≡ countsOf k a trace → l ≡ totalsOf ByRequest k a trace → f ≡ totalsOf ByLoad k a trace → n ≡ markTotals.totalsOf k a trace blankTable → y ≡ traceTotals k a trace blank blank
       → record {
         refusal = 0;
         k = k;
@@ -47,11 +61,12 @@ module _ (k a : ℕ) (trace : List ℕ) (right : SizesRight k a) (short : length
         min = counts (m .bundles) (m .loads);
         lru = counts (l .bundles) (l .loads);
         fifo = counts (f .bundles) (f .loads);
+        mark = counts (n .bundles) (n .loads);
         layers = layersCounts (y .bundles) (y .s) (y .revealed);
       } ≡ figures k a trace
   unfolding figures
-  figures-told m l f y em el ef ey =
-      rw (em, el, ef, ey ∙ layers-take, accepted) refl
+  figures-told m l f n y em el ef en ey =
+      rw (em, el, ef, en ∙ marks-take, ey ∙ layers-take, accepted) refl
 
 -- The whole input
 

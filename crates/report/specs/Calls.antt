@@ -1,4 +1,4 @@
--- What the bench says of an input (document 01, "The eight-request shift"; document 02, request 01): the numbers of its five lines, or a
+-- What the bench says of an input (document 01, "The eight-request shift"; document 02, requests 01 and 09): the numbers of its six lines, or a
 -- refusal's number with zeros beside it.
 use Prim.Native.Nat.{ℕ, _+_, _*_, _≤_}
 use mathlib.Core.List.{List, _++_}
@@ -10,6 +10,8 @@ use Rattle.paging.specs.Min.{bestCount, minLoads}
 use Rattle.paging.specs.Policy.{bundleCount, bundleCountBy, loadCount, loadCountBy}
 use Rattle.paging.specs.Table.{revealed, tabledAfter, nothingYet}
 use Rattle.paging.specs.declared.Keeping.the-variants.{ByLoad}
+use Rattle.marking.specs.Marking.{markBundles, markLoads}
+use Rattle.marking.specs.Rdm.{rdm}
 use Rattle.traces.specs.Traces.{TraceFile, whole, damaged, traceFile}
 use Rattle.report.specs.declared.LayersFigures.{LayersFigures}
 use Rattle.report.specs.declared.PolicyFigures.{PolicyFigures}
@@ -31,6 +33,7 @@ refusedReport number =
       min = counts 0 0;
       lru = counts 0 0;
       fifo = counts 0 0;
+      mark = counts 0 0;
       layers = layersCounts 0 0 0;
     }
 
@@ -38,7 +41,7 @@ refusedReport number =
 abbrev pub revealedAfter : (k a : ℕ) → (trace : List ℕ) → ℕ
 revealedAfter k a trace = revealed (tabledAfter k a trace nothingYet .s) (tabledAfter k a trace nothingYet .rows)
 
--- k, a, requests; MIN's, LRU's and oldest load's bundles and loads; the layers' bundles, s, and revealed pages
+-- k, a, requests; MIN's, LRU's, oldest load's and marking's bundles and loads; the layers' bundles, s, and revealed pages
 unfoldable pub figures : (k a : ℕ) → (trace : List ℕ) → Report
 figures k a trace =
     record {
@@ -49,6 +52,7 @@ figures k a trace =
       min = counts (bestCount k a trace) (minLoads k a trace);
       lru = counts (bundleCount (lruRule a) k trace) (loadCount (lruRule a) k trace);
       fifo = counts (bundleCountBy ByLoad (frontRule a) k trace) (loadCountBy ByLoad (frontRule a) k trace);
+      mark = counts (markBundles (rdm k a) k a trace) (markLoads (rdm k a) k a trace);
       layers = layersCounts (joinCount k a trace) (layersAfter k a trace noLayers .top) (revealedAfter k a trace);
     }
 

@@ -18,7 +18,7 @@ pub struct LayersFigures {
     pub revealed: u32,
 }
 
-// The five lines' numbers; or the refusal's number, and zeros.
+// The six lines' numbers; or the refusal's number, and zeros.
 pub struct Report {
     pub refusal: u32,
     pub k: u32,
@@ -27,6 +27,7 @@ pub struct Report {
     pub min: PolicyFigures,
     pub lru: PolicyFigures,
     pub fifo: PolicyFigures,
+    pub mark: PolicyFigures,
     pub layers: LayersFigures,
 }
 
@@ -58,6 +59,7 @@ impl Report {
             min: none,
             lru: none,
             fifo: none,
+            mark: none,
             layers,
         }
     }

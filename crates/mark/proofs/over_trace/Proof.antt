@@ -60,7 +60,10 @@ same-length-6 c = search needs
 
 -- src/lib.rt:169:9
 returns-2 : tie.Need-returns-2
-returns-2 c = over-full _ _ _ _ (sym (c .before .before .before .before .before .before .before .before .before .before .before .before .before .before .before .before .before .before .before .before .before .before .if1 .left) ∙ c .before .before .before .before .before .before .before .before .before .before .before .before .before .before .before .before .before .before .before .before .before .before .before .early-refusal .ensures) _ (c .before .before .before .before .before .before .before .before .before .before .before .before .before .before .before .before .before .before .serve-all .result) (c .before .before .before .before .before .before .before .before .before .before .before .before .before .before .before .before .before .before .serve-all .ensures) _ _ _ _ _ _ (c .before .before .before .before .before .before .before .before .before .before .before .if2 .taken) (c .before .before .before .before .before .before .before .before .before .before .before .before .before .before .before .before .before .before .serve-all .kept .1 .1 .1 .0) (c .before .before .before .before .before .before .before .before .before .before .before .before .before .before .before .before .before .before .serve-all .kept .1 .1 .1 .1 .0) (c .before .before .before .before .before .before .before .before .before .before .before .before .before .before .before .before .before .before .serve-all .kept .1 .1 .1 .1 .1 .0) (c .before .before .before .before .before .before .before .clear .ensures .0) (c .before .before .before .before .before .before .before .clear .ensures .1) (c .before .before .before .before .before .before .before .clear .ensures .2) _ (c .refused-totals2 .ensures)
+returns-2 c =
+    let at7 = c .before .before .before .before .before .before .before in
+    let at18 = c .before .before .before .before .before .before .before .before .before .before .before .before .before .before .before .before .before .before in
+    over-full _ _ _ _ (sym (c .before .before .before .before .before .before .before .before .before .before .before .before .before .before .before .before .before .before .before .before .before .before .if1 .left) ∙ c .before .before .before .before .before .before .before .before .before .before .before .before .before .before .before .before .before .before .before .before .before .before .before .early-refusal .ensures) _ (at18 .serve-all .result) (at18 .serve-all .ensures) _ _ _ _ _ _ (c .before .before .before .before .before .before .before .before .before .before .before .if2 .taken) (at18 .serve-all .kept .1 .1 .1 .0) (at18 .serve-all .kept .1 .1 .1 .1 .0) (at18 .serve-all .kept .1 .1 .1 .1 .1 .0) (at7 .clear .ensures .0) (at7 .clear .ensures .1) (at7 .clear .ensures .2) _ (c .refused-totals2 .ensures)
 
 -- src/lib.rt:151:1
 same-length-7 : tie.Need-same-length-7
@@ -76,7 +79,9 @@ same-length-9 c = search needs
 
 -- src/lib.rt:151:1
 returns-3 : tie.Need-returns-3
-returns-3 c = over-done _ _ _ _ (sym (c .before .before .before .before .before .before .before .before .before .before .before .if1 .left) ∙ c .before .before .before .before .before .before .before .before .before .before .before .before .early-refusal .ensures) _ (c .before .before .before .before .before .before .before .serve-all .result) (c .before .before .before .before .before .before .before .serve-all .ensures) (c .if2 .left)
+returns-3 c =
+    let at7 = c .before .before .before .before .before .before .before in
+    over-done _ _ _ _ (sym (c .before .before .before .before .before .before .before .before .before .before .before .if1 .left) ∙ c .before .before .before .before .before .before .before .before .before .before .before .before .early-refusal .ensures) _ (at7 .serve-all .result) (at7 .serve-all .ensures) (c .if2 .left)
 
 pub over-trace-spec : {M : Type 1} → statement M
 over-trace-spec =

@@ -62,7 +62,11 @@ find-requires c κs = search needs
 
 -- src/lib.rt:114:9
 step-requires : tie.Need-step-requires
-step-requires c κs = let R = taken (c .before .before .before .before .before .before .before .before .before .before .before .before .before .before .before .before .before .before .before .before .before .before .before .before .before .before .before .before .args .run) (c .before .before .before .before .before .before .before .before .before .before .before .before .before .before .before .before .before .before .before .before .before .before .before .before .before .before .before .before .args .count) _ (c .before .before .before .before .before .before .before .before .before .before .before .before .before .before .before .before .before .before .before .before .before .before .before .before .before .before .before .before .args .page) _ (c .before .before .before .before .before .before .before .before .before .before .before .before .before .judge .ensures .refusal-told) (c .before .before .before .before .before .before .before .before .before .before .before .if1 .left) in step-ready _ _ _ R _ _ (c .before .before .before .before .before .before .before .find .ensures) (c .before .before .before .before .before .before .before .before .before .before .before .before .before .judge .ensures .revealed-told (c .before .before .before .before .before .before .before .before .before .before .before .if1 .left)) (c .before .before .before .before .before .before .before .before .before .before .before .before .before .judge .ensures .more (c .before .before .before .before .before .before .before .before .before .before .before .if1 .left))
+step-requires c κs =
+    let at11 = c .before .before .before .before .before .before .before .before .before .before .before in
+    let at13 = c .before .before .before .before .before .before .before .before .before .before .before .before .before in
+    let at28 = c .before .before .before .before .before .before .before .before .before .before .before .before .before .before .before .before .before .before .before .before .before .before .before .before .before .before .before .before in
+    let R = taken (at28 .args .run) (at28 .args .count) _ (at28 .args .page) _ (at13 .judge .ensures .refusal-told) (at11 .if1 .left) in step-ready _ _ _ R _ _ (c .before .before .before .before .before .before .before .find .ensures) (at13 .judge .ensures .revealed-told (at11 .if1 .left)) (at13 .judge .ensures .more (at11 .if1 .left))
 
 -- src/lib.rt:128:9
 refused-requires-2 : tie.Need-refused-requires-2
@@ -98,11 +102,18 @@ same-length-14 c = search needs
 
 -- src/lib.rt:128:9
 returns-2 : tie.Need-returns-2
-returns-2 c = answer-full _ _ _ _ _ (c .before .before .before .before .before .before .before .before .before .before .before .before .before .before .before .before .before .before .before .before .before .before .before .before .before .before .before .before .before .before .judge .ensures .refusal-told) (c .before .before .before .before .before .before .before .before .before .before .before .before .before .before .before .before .before .before .before .before .before .before .before .before .before .before .before .before .if1 .left) _ _ _ (c .before .before .before .before .before .before .before .before .before .before .before .before .before .before .before .before .step .result) (c .before .before .before .before .before .before .before .before .before .before .before .before .before .before .before .before .step .ensures) _ (c .before .if2 .taken) (c .refused2 .ensures)
+returns-2 c =
+    let at16 = c .before .before .before .before .before .before .before .before .before .before .before .before .before .before .before .before in
+    answer-full _ _ _ _ _ (c .before .before .before .before .before .before .before .before .before .before .before .before .before .before .before .before .before .before .before .before .before .before .before .before .before .before .before .before .before .before .judge .ensures .refusal-told) (c .before .before .before .before .before .before .before .before .before .before .before .before .before .before .before .before .before .before .before .before .before .before .before .before .before .before .before .before .if1 .left) _ _ _ (at16 .step .result) (at16 .step .ensures) _ (c .before .if2 .taken) (c .refused2 .ensures)
 
 -- src/lib.rt:130:5
 answered-requires : tie.Need-answered-requires
-answered-requires c κs = let R = taken (c .before .before .before .before .before .before .before .before .before .before .before .before .before .before .before .before .before .before .before .before .before .before .before .before .before .before .before .before .before .before .before .before .before .before .before .before .before .before .before .before .before .before .before .before .args .run) (c .before .before .before .before .before .before .before .before .before .before .before .before .before .before .before .before .before .before .before .before .before .before .before .before .before .before .before .before .before .before .before .before .before .before .before .before .before .before .before .before .before .before .before .before .args .count) _ (c .before .before .before .before .before .before .before .before .before .before .before .before .before .before .before .before .before .before .before .before .before .before .before .before .before .before .before .before .before .before .before .before .before .before .before .before .before .before .before .before .before .before .before .before .args .page) _ (c .before .before .before .before .before .before .before .before .before .before .before .before .before .before .before .before .before .before .before .before .before .before .before .before .before .before .before .before .before .judge .ensures .refusal-told) (c .before .before .before .before .before .before .before .before .before .before .before .before .before .before .before .before .before .before .before .before .before .before .before .before .before .before .before .if1 .left) in (answer-ready _ _ _ R (c .before .before .before .before .before .before .before .before .before .before .before .before .before .before .before .before .before .before .before .before .before .before .before .before .before .before .before .before .before .judge .ensures .more (c .before .before .before .before .before .before .before .before .before .before .before .before .before .before .before .before .before .before .before .before .before .before .before .before .before .before .before .if1 .left)), count-small _ _ _ _ _ (c .before .before .before .before .before .before .before .before .before .before .before .before .before .before .before .before .before .before .before .before .before .before .before .before .before .before .before .before .before .judge .ensures .refusal-told) (c .before .before .before .before .before .before .before .before .before .before .before .before .before .before .before .before .before .before .before .before .before .before .before .before .before .before .before .if1 .left) _ _ _ (c .before .before .before .before .before .before .before .before .before .before .before .before .before .before .before .step .result) (c .before .before .before .before .before .before .before .before .before .before .before .before .before .before .before .step .ensures) (c .if2 .left))
+answered-requires c κs =
+    let at15 = c .before .before .before .before .before .before .before .before .before .before .before .before .before .before .before in
+    let at27 = c .before .before .before .before .before .before .before .before .before .before .before .before .before .before .before .before .before .before .before .before .before .before .before .before .before .before .before in
+    let at29 = c .before .before .before .before .before .before .before .before .before .before .before .before .before .before .before .before .before .before .before .before .before .before .before .before .before .before .before .before .before in
+    let at44 = c .before .before .before .before .before .before .before .before .before .before .before .before .before .before .before .before .before .before .before .before .before .before .before .before .before .before .before .before .before .before .before .before .before .before .before .before .before .before .before .before .before .before .before .before in
+    let R = taken (at44 .args .run) (at44 .args .count) _ (at44 .args .page) _ (at29 .judge .ensures .refusal-told) (at27 .if1 .left) in (answer-ready _ _ _ R (at29 .judge .ensures .more (at27 .if1 .left)), count-small _ _ _ _ _ (at29 .judge .ensures .refusal-told) (at27 .if1 .left) _ _ _ (at15 .step .result) (at15 .step .ensures) (c .if2 .left))
 
 -- src/lib.rt:72:1
 same-length-15 : tie.Need-same-length-15
@@ -134,7 +145,9 @@ same-length-21 c = search needs
 
 -- src/lib.rt:72:1
 returns-3 : tie.Need-returns-3
-returns-3 c = answer-served _ _ _ _ _ (c .before .before .before .before .before .before .before .before .before .before .before .before .before .before .before .before .before .before .before .before .before .before .before .before .before .before .before .before .before .before .judge .ensures .refusal-told) (c .before .before .before .before .before .before .before .before .before .before .before .before .before .before .before .before .before .before .before .before .before .before .before .before .before .before .before .before .if1 .left) _ _ _ (c .before .before .before .before .before .before .before .before .before .before .before .before .before .before .before .before .step .result) (c .before .before .before .before .before .before .before .before .before .before .before .before .before .before .before .before .step .ensures) _ (c .before .if2 .left) (c .answered .ensures)
+returns-3 c =
+    let at16 = c .before .before .before .before .before .before .before .before .before .before .before .before .before .before .before .before in
+    answer-served _ _ _ _ _ (c .before .before .before .before .before .before .before .before .before .before .before .before .before .before .before .before .before .before .before .before .before .before .before .before .before .before .before .before .before .before .judge .ensures .refusal-told) (c .before .before .before .before .before .before .before .before .before .before .before .before .before .before .before .before .before .before .before .before .before .before .before .before .before .before .before .before .if1 .left) _ _ _ (at16 .step .result) (at16 .step .ensures) _ (c .before .if2 .left) (c .answered .ensures)
 
 pub request-spec : {M : Type 1} → statement M
 request-spec =

@@ -61,7 +61,9 @@ returns-3 c = let right = sizes-right _ _ (sym (c .before .before .before .befor
 
 -- src/refusing.rt:149:8
 buffer-formed-requires : tie.Need-buffer-formed-requires
-buffer-formed-requires c κs = let right = sizes-right _ _ (sym (c .before .before .before .before .before .refusal .ensures) ∙ c .before .before .before .before .if1 .left) in let R = room (c .before .before .before .before .before .before .before .before .before .before .before .before .before .args .run) (c .before .before .before .before .before .before .before .before .before .before .before .before .before .args .count) _ right (sym (c .before .before .if2 .left) ∙ c .before .before .before .lists-refused .ensures) in (R .cache-room, omega (arith, R .cache-room, R .marks-even))
+buffer-formed-requires c κs =
+    let at13 = c .before .before .before .before .before .before .before .before .before .before .before .before .before in
+    let right = sizes-right _ _ (sym (c .before .before .before .before .before .refusal .ensures) ∙ c .before .before .before .before .if1 .left) in let R = room (at13 .args .run) (at13 .args .count) _ right (sym (c .before .before .if2 .left) ∙ c .before .before .before .lists-refused .ensures) in (R .cache-room, omega (arith, R .cache-room, R .marks-even))
 
 -- src/refusing.rt:150:9
 found-requires-4 : tie.Need-found-requires-4
@@ -85,7 +87,9 @@ returns-5 c = let right = sizes-right _ _ (sym (c .before .before .before .befor
 
 -- src/refusing.rt:156:8
 times-formed-requires : tie.Need-times-formed-requires
-times-formed-requires c κs = let right = sizes-right _ _ (sym (c .before .before .before .before .before .before .before .before .before .before .refusal .ensures) ∙ c .before .before .before .before .before .before .before .before .before .if1 .left) in let R = room (c .before .before .before .before .before .before .before .before .before .before .before .before .before .before .before .before .before .before .args .run) (c .before .before .before .before .before .before .before .before .before .before .before .before .before .before .before .before .before .before .args .count) _ right (sym (c .before .before .before .before .before .before .before .if2 .left) ∙ c .before .before .before .before .before .before .before .before .lists-refused .ensures) in R .times-even ∙ sym (R .numbers-even)
+times-formed-requires c κs =
+    let at18 = c .before .before .before .before .before .before .before .before .before .before .before .before .before .before .before .before .before .before in
+    let right = sizes-right _ _ (sym (c .before .before .before .before .before .before .before .before .before .before .refusal .ensures) ∙ c .before .before .before .before .before .before .before .before .before .if1 .left) in let R = room (at18 .args .run) (at18 .args .count) _ right (sym (c .before .before .before .before .before .before .before .if2 .left) ∙ c .before .before .before .before .before .before .before .before .lists-refused .ensures) in R .times-even ∙ sym (R .numbers-even)
 
 -- src/refusing.rt:157:9
 found-requires-6 : tie.Need-found-requires-6

@@ -56,7 +56,9 @@ loop-less c = search needs
 
 -- src/refusing.rt:90:5
 loop-again : tie.Need-loop-again Inv-loop μ-loop
-loop-again c = (omega arith, times-turn _ (c .before .before .before .before .loop .i) (c .before .before .before .before .loop .bad) _ _ (c .before .before .before .before .before .pre) (c .before .before .before .loop-test .taken) (c .before .before .before .before .loop .inv .1))
+loop-again c =
+    let at4 = c .before .before .before .before in
+    (omega arith, times-turn _ (at4 .loop .i) (at4 .loop .bad) _ _ (c .before .before .before .before .before .pre) (c .before .before .before .loop-test .taken) (at4 .loop .inv .1))
 
 -- src/refusing.rt:84:1
 returns : tie.Need-returns Inv-loop μ-loop

@@ -25,7 +25,9 @@ loads-requires c κs = search needs
 
 -- src/serving.rt:164:16
 add-t10 : tie.Need-add-t10
-add-t10 c = let r = c .before .before .before .before .before .before .pre .0 in let one = bit-le (ltb 0 (c .before .before .before .before .before .before .args .stepped .answer)) in let told = c .before .loads .ensures in omega (arith, r .more, r .loads-low)
+add-t10 c =
+    let at6 = c .before .before .before .before .before .before in
+    let r = at6 .pre .0 in let one = bit-le (ltb 0 (at6 .args .stepped .answer)) in let told = c .before .loads .ensures in omega (arith, r .more, r .loads-low)
 
 -- src/serving.rt:165:36
 bundles-requires : tie.Need-bundles-requires
@@ -33,7 +35,9 @@ bundles-requires c κs = search needs
 
 -- src/serving.rt:165:20
 add-t12 : tie.Need-add-t12
-add-t12 c = let r = c .before .before .before .before .before .before .before .before .pre .0 in let one = bit-le (eqb (c .before .before .before .before .before .before .before .before .args .stepped .answer) 2) in let told = c .before .bundles .ensures in omega (arith, r .more, r .loads-low, r .evictions-low)
+add-t12 c =
+    let at8 = c .before .before .before .before .before .before .before .before in
+    let r = at8 .pre .0 in let one = bit-le (eqb (at8 .args .stepped .answer) 2) in let told = c .before .bundles .ensures in omega (arith, r .more, r .loads-low, r .evictions-low)
 
 -- src/serving.rt:172:16
 cast-t8 : tie.Need-cast-t8

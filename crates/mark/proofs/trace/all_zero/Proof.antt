@@ -40,7 +40,9 @@ loop-less c = search needs
 
 -- src/trace.rt:25:5
 loop-again : tie.Need-loop-again Inv-loop μ-loop
-loop-again c = (omega arith, zero-turn (c .before .before .loop .i) (c .before .before .loop .used) (c .before .before .before .args .list .now) (c .before .loop-test .taken) (c .before .before .loop .inv .1))
+loop-again c =
+    let at2 = c .before .before in
+    (omega arith, zero-turn (at2 .loop .i) (at2 .loop .used) (c .before .before .before .args .list .now) (c .before .loop-test .taken) (at2 .loop .inv .1))
 
 -- src/trace.rt:20:1
 returns : tie.Need-returns Inv-loop μ-loop

@@ -66,7 +66,9 @@ same-length-3 c = search needs
 
 -- src/trace.rt:105:13
 returns : tie.Need-returns Inv-loop μ-loop
-returns c = tracing-full _ _ _ _ _ _ _ _ _ (c .before .before .before .before .before .before .before .before .before .before .before .before .before .before .before .before .before .before .before .before .before .loop .inv .7) (c .before .before .before .before .before .before .before .before .before .before .before .before .before .before .before .before .before .before .before .before .loop-test .taken) _ (c .before .before .before .before .before .before .before .before .before .before .before .step .result) (c .before .before .before .before .before .before .before .before .before .before .before .step .ensures) _ _ refl (c .if1 .taken)
+returns c =
+    let at11 = c .before .before .before .before .before .before .before .before .before .before .before in
+    tracing-full _ _ _ _ _ _ _ _ _ (c .before .before .before .before .before .before .before .before .before .before .before .before .before .before .before .before .before .before .before .before .before .loop .inv .7) (c .before .before .before .before .before .before .before .before .before .before .before .before .before .before .before .before .before .before .before .before .loop-test .taken) _ (at11 .step .result) (at11 .step .ensures) _ _ refl (c .if1 .taken)
 
 -- src/trace.rt:111:20
 bundles-requires : tie.Need-bundles-requires Inv-loop μ-loop
@@ -94,7 +96,10 @@ loop-less c = search needs
 
 -- src/trace.rt:90:5
 loop-again : tie.Need-loop-again Inv-loop μ-loop
-loop-again c = (c .before .before .before .before .before .before .before .before .before .before .before .before .before .before .step .kept .1 .1 .1 .1 .0 ∙ c .before .before .before .before .before .before .before .before .before .before .before .before .before .before .before .before .before .before .before .before .before .before .before .before .loop .inv .0, c .before .before .before .before .before .before .before .before .before .before .before .before .before .before .step .kept .1 .1 .1 .1 .1 .0 ∙ c .before .before .before .before .before .before .before .before .before .before .before .before .before .before .before .before .before .before .before .before .before .before .before .before .loop .inv .1, c .before .before .before .before .before .before .before .before .before .before .before .before .before .before .step .kept .1 .1 .1 .1 .1 .1 .0 ∙ c .before .before .before .before .before .before .before .before .before .before .before .before .before .before .before .before .before .before .before .before .before .before .before .before .loop .inv .2, c .before .before .before .before .before .before .before .before .before .before .before .before .before .before .step .kept .1 .1 .1 .1 .1 .1 .1 .0 ∙ c .before .before .before .before .before .before .before .before .before .before .before .before .before .before .before .before .before .before .before .before .before .before .before .before .loop .inv .3, c .before .before .before .before .before .before .before .before .before .before .before .before .before .before .step .kept .1 .1 .1 .1 .1 .1 .1 .1 .0 ∙ c .before .before .before .before .before .before .before .before .before .before .before .before .before .before .before .before .before .before .before .before .before .before .before .before .loop .inv .4, c .before .before .before .before .before .before .before .before .before .before .before .before .before .before .step .kept .1 .1 .1 .1 .1 .1 .1 .1 .1 .0 ∙ c .before .before .before .before .before .before .before .before .before .before .before .before .before .before .before .before .before .before .before .before .before .before .before .before .loop .inv .5, c .before .before .before .before .before .before .before .before .before .before .before .before .before .before .step .kept .1 .1 .1 .1 .1 .1 .1 .1 .1 .1 .0 ∙ c .before .before .before .before .before .before .before .before .before .before .before .before .before .before .before .before .before .before .before .before .before .before .before .before .loop .inv .6, tracing-next _ _ _ _ _ _ _ _ _ (c .before .before .before .before .before .before .before .before .before .before .before .before .before .before .before .before .before .before .before .before .before .before .before .before .loop .inv .7) (c .before .before .before .before .before .before .before .before .before .before .before .before .before .before .before .before .before .before .before .before .before .before .before .loop-test .taken) _ (c .before .before .before .before .before .before .before .before .before .before .before .before .before .before .step .result) (c .before .before .before .before .before .before .before .before .before .before .before .before .before .before .step .ensures) (c .before .before .before .if1 .left) (c .before .before .before .before .before .before .before .before .before .before .before .before .before .before .before .before .before .before .before .before .before .before .before .before .before .before .before .before .before .pre .short) _ _ (c .before .before .bundles .ensures) (c .before .loads .ensures) (c .before .before .before .before .before .before .before .before .before .before .before .before .before .before .step .kept .1 .1 .1 .1 .1 .1 .1 .0))
+loop-again c =
+    let at14 = c .before .before .before .before .before .before .before .before .before .before .before .before .before .before in
+    let at24 = c .before .before .before .before .before .before .before .before .before .before .before .before .before .before .before .before .before .before .before .before .before .before .before .before in
+    (at14 .step .kept .1 .1 .1 .1 .0 ∙ at24 .loop .inv .0, at14 .step .kept .1 .1 .1 .1 .1 .0 ∙ at24 .loop .inv .1, at14 .step .kept .1 .1 .1 .1 .1 .1 .0 ∙ at24 .loop .inv .2, at14 .step .kept .1 .1 .1 .1 .1 .1 .1 .0 ∙ at24 .loop .inv .3, at14 .step .kept .1 .1 .1 .1 .1 .1 .1 .1 .0 ∙ at24 .loop .inv .4, at14 .step .kept .1 .1 .1 .1 .1 .1 .1 .1 .1 .0 ∙ at24 .loop .inv .5, at14 .step .kept .1 .1 .1 .1 .1 .1 .1 .1 .1 .1 .0 ∙ at24 .loop .inv .6, tracing-next _ _ _ _ _ _ _ _ _ (at24 .loop .inv .7) (c .before .before .before .before .before .before .before .before .before .before .before .before .before .before .before .before .before .before .before .before .before .before .before .loop-test .taken) _ (at14 .step .result) (at14 .step .ensures) (c .before .before .before .if1 .left) (c .before .before .before .before .before .before .before .before .before .before .before .before .before .before .before .before .before .before .before .before .before .before .before .before .before .before .before .before .before .pre .short) _ _ (c .before .before .bundles .ensures) (c .before .loads .ensures) (at14 .step .kept .1 .1 .1 .1 .1 .1 .1 .0))
 
 -- src/trace.rt:64:1
 same-length-4 : tie.Need-same-length-4 Inv-loop μ-loop
