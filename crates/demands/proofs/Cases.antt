@@ -16,11 +16,16 @@ use Rattle.layers.specs.Calls.{stateRefusal, requestRefusal, requestReply, page
 use Rattle.layers.specs.Formed.{isUnused, follows, tableFormed, countsFormed, layersWellFormed}
 use Rattle.layers.specs.Questions.{verdict, possibleRefusal}
 use Rattle.layers.specs.Traces.{earlyRefusal, traceTotals}
+use Rattle.marking.specs.Marking.{sooner}
+use Rattle.mark.specs.Calls as markCalls
+use Rattle.mark.specs.Formed.{recordFormed, bufferFormed, markWellFormed}
+use Rattle.mark.specs.Traces as markTraces
 use Rattle.report.specs.Calls.{figures, reportOf}
 use Rattle.demands.specs.Cases.{allRight, markedCases, requestedCases}
 
 pub marked-cases-hold : allRight (markedCases ++ requestedCases) ≡ true
 unfolding sameEntries samePages _and_ _or_ rowBefore farther sizesRefusal traceRefusal markOf markAt kaRead rqRead rrRead requestRead readTrace requestsFrom traceFile figures
     reportOf runRefusal wellFormed isUnused follows tableFormed countsFormed layersWellFormed stateRefusal requestRefusal requestReply pagesNext numbersNext
-    verdict possibleRefusal earlyRefusal traceTotals
+    verdict possibleRefusal earlyRefusal traceTotals sooner markCalls.listsRefused markCalls.stateRefusal markCalls.requestRefusal markCalls.replyOf markCalls.lentAfter
+    recordFormed bufferFormed markWellFormed markTraces.earlyRefusal markTraces.totalsOf
 marked-cases-hold = refl

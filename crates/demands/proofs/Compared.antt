@@ -8,9 +8,11 @@ use Rattle.paging.specs.Refusals.{SizesRight}
 use Rattle.paging.specs.declared.Keeping.{Keeping}
 use Rattle.paging.specs.declared.Keeping.the-variants.{ByRequest, ByLoad}
 use Rattle.paging.proofs.Refusals.{trace-right}
+use Rattle.marking.specs.Rdm.{rdm}
 use Rattle.theory.specs.Factor.{ceilDiv}
 use Rattle.theory.proofs.Best.{min-serves, min-costs-best, serving-costs-best, layers-count-best}
 use Rattle.theory.proofs.Front.{front-within-factor, lru-within-factor, fifo-within-layers}
+use Rattle.theory.proofs.Marking.{marking-within-factor}
 use Rattle.theory.proofs.Possible.{possible-is-what-min-can-hold, min-holds-possible-sets}
 use Rattle.records.specs.Bytes.{TraceFileOf}
 use Rattle.queue.specs.Standing.{Call, acceptedPages, afterCalls, emptyState}
@@ -18,6 +20,9 @@ use Rattle.queue.specs.declared.Run.{Run}
 use Rattle.queue.proofs.Steps.{calls-from-empty}
 use Rattle.layers.specs.declared.LayersRun.{LayersRun}
 use Rattle.layers.proofs.Steps.{yes-exactly, named-by-trace}
+use Rattle.mark.specs.Standing as marking
+use Rattle.mark.specs.declared.MarkRun.{MarkRun}
+use Rattle.mark.proofs.Standing as markSteps
 use Rattle.min.specs.Calls.{bytesRefusal, scheduleRefusal, scheduleWritten}
 use Rattle.min.proofs.ReadBack.{schedule-written}
 use Rattle.judging.specs.Answer.{cost, answerNumber}
@@ -57,6 +62,16 @@ calls-within-factor keeping k a pos le small cache calls =
     let e = ap (λ (run : Run). run .evictions) (calls-from-empty keeping k a calls cache pos le small .record-is) in
     rw e (front-within-factor keeping k a pos le (acceptedPages keeping calls (emptyState k a cache)))
 
+-- Marking with RDM, over lists of calls
+
+marking-calls-within-factor : (k a : ℕ) → 1 ≤ a → a ≤ k → k ≤ 256 → (cache marks priorities : List ℕ) (places : ℕ) (calls : List marking.Call)
+    → (let start = marking.emptyState k a cache marks priorities places in
+    marking.afterCalls calls start .run .evictions ≤ ceilDiv k a * bestCount k a (marking.acceptedPages calls start))
+marking-calls-within-factor k a pos le small cache marks priorities places calls =
+    let start = marking.emptyState k a cache marks priorities places in
+    let e = ap (λ (run : MarkRun). run .evictions) (markSteps.calls-from-empty k a calls cache marks priorities places pos le small .run-is) in
+    rw e (marking-within-factor (rdm k a) k a pos le (marking.acceptedPages calls start))
+
 -- The bench's reports
 
 figures-within-factor : (k a : ℕ) (trace : List ℕ) → SizesRight k a → WithinFactor (figures k a trace)
@@ -84,6 +99,8 @@ compares k a pos le small =
           let counted = ap (λ (run : LayersRun). run .evictions) (list-stands k a pos le small places layersCalls .run-is) ∙ layers-count-best k a pos le trace in
           let within = calls-within-factor ByLoad k a pos le small cache calls in
           rw (counted) (rw same at within);
+      marking-stays-within-the-factor = marking-calls-within-factor k a pos le small;
+      any-priorities-stay-within-the-factor = λ rule trace. marking-within-factor rule k a pos le trace;
       possible-is-what-min-can-hold = λ places calls set once answer told.
           let x = layersAfterCalls calls (layersStart k a places) in
           let trace = layersTrace calls (layersStart k a places) in

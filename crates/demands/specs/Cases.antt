@@ -21,6 +21,9 @@ use Rattle.layers.specs.Questions.{Verdict, refusedWith, possibleSet, countDiff
 use Rattle.layers.specs.Traces.{traceTotals}
 use Rattle.layers.specs.declared.LayersReply.{LayersReply}
 use Rattle.layers.specs.declared.LayersRun.{LayersRun}
+use Rattle.mark.specs.Calls as markCalls
+use Rattle.mark.specs.Standing as marking
+use Rattle.mark.specs.Traces as markTraces
 use Rattle.min.specs.Calls.{countsOf}
 use Rattle.report.specs.Calls.{counts, layersCounts, refusedReport, reportOf}
 use Rattle.report.specs.declared.Report.{Report}
@@ -54,6 +57,14 @@ pub data Row : Type 0 where
   refuses : (k a places : ℕ) (pages : List ℕ) (page number : ℕ) → Row
   -- the length in bytes that is answered for an EV of n pages; 0 where no EV has so many
   measures : (n answered : ℕ) → Row
+  -- bundles and loads of marking over a trace, with a table of so many places
+  markCounts : (k a places : ℕ) (pages : List ℕ) (bundles loads : ℕ) → Row
+  -- a request to marking on a state leaves this in an evicted list of a places
+  markEvicts : marking.State → (page : ℕ) (bundle : List ℕ) → Row
+  -- after requests to marking, the lists of cached pages, marks and priorities, and the pages of the layer table with t0 beside them
+  markKeeps : (k a places : ℕ) (pages cache marks priorities tablePages times : List ℕ) → Row
+  -- the refusal of a request to marking on a state, 0 for none
+  markRefuses : marking.State → (page number : ℕ) → Row
 
 -- Computed by the calls
 
@@ -80,6 +91,41 @@ layersAt k a places pages = layersAfterCalls (layersCalls pages) (layersStart k 
 abbrev pub rulesTold : List ℕ → LayersState → List ℕ
 rulesTold [] x = []
 rulesTold (p ∷ ps) x = requestReply (x .run) (x .pages) (x .numbers) p .answer ∷ rulesTold ps (layersNext x (request p))
+
+-- a call to marking, lent an evicted list of a places
+abbrev pub markCall : marking.State → (page : ℕ) → marking.Call
+markCall S page = record { page = page; evicted = replicate (S .run .a) 0 }
+
+-- the state after requests to marking for some pages, on a state
+abbrev pub markedFrom : List ℕ → marking.State → marking.State
+markedFrom [] S = S
+markedFrom (p ∷ ps) S = markedFrom ps (marking.called (markCall S p) S)
+
+-- from the empty buffer and a table of so many places, all unused
+abbrev pub markedAfter : (k a places : ℕ) → List ℕ → marking.State
+markedAfter k a places pages = markedFrom pages (marking.emptyState k a (replicate k 0) (replicate k 0) (replicate k 0) places)
+
+-- k 2, a 1, after the pages 1 and 2 in a table of three places, with this t, these lists of cached pages, and this t0 beside the table
+abbrev pub twoMarked : (t : ℕ) → (cache marks priorities times : List ℕ) → marking.State
+twoMarked t cache marks priorities times =
+    record {
+      run = record {
+        k = 2;
+        a = 1;
+        requests = 2;
+        loads = 2;
+        evictions = 0;
+        t = t;
+        layers = record { k = 2; a = 1; requests = 2; evictions = 0; s = 2; appends = 2; joins = 0; lifts = 0 };
+      };
+      count = 2;
+      cache = cache;
+      marks = marks;
+      priorities = priorities;
+      pages = 1 ∷ 2 ∷ 0 ∷ [];
+      numbers = 1 ∷ 2 ∷ 0 ∷ [];
+      times = times;
+    }
 
 -- Compared
 
@@ -133,6 +179,15 @@ right (replies run pages numbers page fields) = samePages (fieldsOf (requestRepl
 right (refuses k a places pages page number) =
     let x = layersAt k a places pages in eqb (requestRefusal (x .run) (x .pages) (x .numbers) page) number
 right (measures n answered) = eqb (evLengthAnswer n) answered
+right (markCounts k a places pages bundles loads) =
+    let T = markTraces.totalsOf k a pages (markTraces.tableWith (replicate places 0) (replicate places 0) (replicate places 0)) in
+    eqb (T .refusal) 0 and eqb (T .bundles) bundles and eqb (T .loads) loads
+right (markEvicts S page bundle) = samePages (markCalls.lentAfter (S .run) (S .count) (marking.lentTo (markCall S page) S) page .evicted) bundle
+right (markKeeps k a places pages cache marks priorities tablePages times) =
+    let S = markedAfter k a places pages in
+    samePages (S .cache) cache and samePages (S .marks) marks and samePages (S .priorities) priorities
+    and samePages (S .pages) tablePages and samePages (S .times) times
+right (markRefuses S page number) = eqb (markCalls.requestRefusal (S .run) (S .count) (marking.lentTo (markCall S page) S) page) number
 
 -- The table
 
@@ -261,6 +316,36 @@ requestedCases =
     -- and before the pages that are requested again, of which the farthest goes first: 7 and 8 before 2, and 2 before 1
     ∷ minEvicts 4 3 (7 ∷ 1 ∷ 8 ∷ 2 ∷ 3 ∷ 1 ∷ 2 ∷ []) (ev 4 (7 ∷ 8 ∷ 2 ∷ []) ∷ [])
     ∷ minEvicts 4 4 (7 ∷ 1 ∷ 8 ∷ 2 ∷ 3 ∷ 1 ∷ 2 ∷ []) (ev 4 (7 ∷ 8 ∷ 2 ∷ 1 ∷ []) ∷ [])
+    -- 09. marking on the shift: no page is revealed when it is requested, so t is 1 to 8, and only page 2 has a lower t0, 2 at t 5. Of 2, 3 and 4 then 3 is
+    -- unmarked and 4 has the lowest priority of the marked ones. The 1b of page 6 clears the marks of 2 and 5
+    ∷ markCounts 3 2 8 shift 3 8
+    ∷ markEvicts (markedAfter 3 2 8 (take 3 shift)) 4 (1 ∷ 2 ∷ [])
+    ∷ markEvicts (markedAfter 3 2 8 (take 5 shift)) 5 (3 ∷ 4 ∷ [])
+    ∷ markEvicts (markedAfter 3 2 8 (take 7 shift)) 1 (2 ∷ 5 ∷ [])
+    ∷ markKeeps 3 2 8 shift (1 ∷ 6 ∷ 0 ∷ []) (1 ∷ 1 ∷ 0 ∷ []) (64 ∷ 56 ∷ 0 ∷ []) (2 ∷ 4 ∷ 5 ∷ 6 ∷ 1 ∷ 0 ∷ 0 ∷ 0 ∷ []) (2 ∷ 4 ∷ 6 ∷ 7 ∷ 8 ∷ 0 ∷ 0 ∷ 0 ∷ [])
+    -- k 3, a 2, pages 1 2 3 1 2 4 1: 1 and 2 are revealed when they come again, so t stays 3, and they get 26 and 25 against 24 of page 3. LRU takes 3 and 1
+    ∷ markEvicts (markedAfter 3 2 4 (1 ∷ 2 ∷ 3 ∷ 1 ∷ 2 ∷ [])) 4 (3 ∷ 2 ∷ [])
+    ∷ evicts ByRequest 3 2 (1 ∷ 2 ∷ 3 ∷ 1 ∷ 2 ∷ []) 4 (3 ∷ 1 ∷ [])
+    ∷ markCounts 3 2 4 (1 ∷ 2 ∷ 3 ∷ 1 ∷ 2 ∷ 4 ∷ 1 ∷ []) 1 4
+    ∷ totals ByRequest 3 2 (1 ∷ 2 ∷ 3 ∷ 1 ∷ 2 ∷ 4 ∷ 1 ∷ []) 1 5
+    -- there 2 and 3 come to L0, and their t0 is gone
+    ∷ markKeeps 3 2 4 (1 ∷ 2 ∷ 3 ∷ 1 ∷ 2 ∷ 4 ∷ 1 ∷ []) (1 ∷ 4 ∷ 0 ∷ []) (1 ∷ 1 ∷ 0 ∷ []) (44 ∷ 32 ∷ 0 ∷ []) (4 ∷ 1 ∷ 0 ∷ 0 ∷ []) (4 ∷ 1 ∷ 0 ∷ 0 ∷ [])
+    -- k 2, a 1, page 3 by 1b: marks are cleared first, lower priorities go before higher ones, and of equal ones the lower page
+    ∷ markEvicts (twoMarked 2 (1 ∷ 2 ∷ []) (0 ∷ 1 ∷ []) (9 ∷ 7 ∷ []) (1 ∷ 2 ∷ 0 ∷ [])) 3 (2 ∷ [])
+    ∷ markEvicts (twoMarked 2 (1 ∷ 2 ∷ []) (1 ∷ 1 ∷ []) (7 ∷ 7 ∷ []) (1 ∷ 2 ∷ 0 ∷ [])) 3 (1 ∷ [])
+    -- marks of three places beside two pages, and t0 of two beside three rows, are 8
+    ∷ markRefuses (twoMarked 2 (1 ∷ 2 ∷ []) (1 ∷ 1 ∷ 0 ∷ []) (8 ∷ 16 ∷ []) (1 ∷ 2 ∷ 0 ∷ [])) 3 8
+    ∷ markRefuses (twoMarked 2 (1 ∷ 2 ∷ []) (1 ∷ 1 ∷ []) (8 ∷ 16 ∷ []) (1 ∷ 2 ∷ [])) 3 8
+    -- pages that do not rise, a mark of 2, t0 above t, t0 in an unused place and t above the requests are 9
+    ∷ markRefuses (twoMarked 2 (2 ∷ 1 ∷ []) (1 ∷ 1 ∷ []) (8 ∷ 16 ∷ []) (1 ∷ 2 ∷ 0 ∷ [])) 3 9
+    ∷ markRefuses (twoMarked 2 (1 ∷ 2 ∷ []) (1 ∷ 2 ∷ []) (8 ∷ 16 ∷ []) (1 ∷ 2 ∷ 0 ∷ [])) 3 9
+    ∷ markRefuses (twoMarked 2 (1 ∷ 2 ∷ []) (1 ∷ 1 ∷ []) (8 ∷ 16 ∷ []) (1 ∷ 3 ∷ 0 ∷ [])) 3 9
+    ∷ markRefuses (twoMarked 2 (1 ∷ 2 ∷ []) (1 ∷ 1 ∷ []) (8 ∷ 16 ∷ []) (1 ∷ 2 ∷ 1 ∷ [])) 3 9
+    ∷ markRefuses (twoMarked 3 (1 ∷ 2 ∷ []) (1 ∷ 1 ∷ []) (8 ∷ 16 ∷ []) (1 ∷ 2 ∷ 0 ∷ [])) 3 9
+    ∷ markRefuses (twoMarked 2 (1 ∷ 2 ∷ []) (1 ∷ 1 ∷ []) (8 ∷ 16 ∷ []) (1 ∷ 2 ∷ 0 ∷ [])) 3 0
+    -- as for the layers, page 3 after 1 2 in a table of two places is 10, and with a 2 it is accepted
+    ∷ markRefuses (markedAfter 2 1 2 (1 ∷ 2 ∷ [])) 3 10
+    ∷ markRefuses (markedAfter 2 2 2 (1 ∷ 2 ∷ [])) 3 0
     ∷ []
 
 abbrev pub allRight : List Row → Bool

@@ -13,6 +13,7 @@ use Rattle.paging.specs.Policy.{holds, bundles}
 use Rattle.paging.specs.Refusals.{largestK, traceRefusal}
 use Rattle.paging.specs.Schedule.{Entry, serves, entriesCost}
 use Rattle.paging.specs.declared.Keeping.the-variants.{ByRequest, ByLoad}
+use Rattle.marking.specs.Marking.{PriorityRule, markBundles}
 use Rattle.theory.specs.Factor.{ceilDiv}
 use Rattle.theory.specs.Possible.{CanHold, HoldsJust}
 use Rattle.wire.specs.Numbers.{Bytes}
@@ -21,6 +22,7 @@ use Rattle.queue.specs.Standing.{Call, afterCalls, acceptedPages, emptyState}
 use Rattle.layers.specs.Questions.{verdictOf, verdict}
 use Rattle.layers.specs.declared.PossibleAnswer.{PossibleAnswer}
 use Rattle.layers.specs.declared.PossibleAnswer.the-variants.{Yes, BrokenAt}
+use Rattle.mark.specs.Standing as marking
 use Rattle.min.specs.Calls.{countsOf, scheduleRefusal, scheduledOf, scheduleWritten}
 use Rattle.judging.specs.Answer.{refused, answerNumber}
 use Rattle.judging.specs.Files.{judged}
@@ -51,6 +53,13 @@ pub record Compares (k a : ℕ) : Type 0 where
   pub oldest-load-within-the-layers-count : (cache : List ℕ) (calls : List Call) (places : ℕ) (layersCalls : List LayersCall)
       → acceptedPages ByLoad calls (emptyState k a cache) ≡ layersTrace layersCalls (layersStart k a places)
       → afterCalls ByLoad calls (emptyState k a cache) .run .evictions ≤ ceilDiv k a * layersAfterCalls layersCalls (layersStart k a places) .run .evictions
+  -- document 02, request 09: "From an empty buffer and empty layers a depot may count on the same factor against the best count as for LRU", for lists of
+  -- marking with RDM, refused calls among them
+  pub marking-stays-within-the-factor : (cache marks priorities : List ℕ) (places : ℕ) (calls : List marking.Call)
+      → (let start = marking.emptyState k a cache marks priorities places in
+      marking.afterCalls calls start .run .evictions ≤ ceilDiv k a * bestCount k a (marking.acceptedPages calls start))
+  -- "for any rule of priorities": marking by the rule, over any trace
+  pub any-priorities-stay-within-the-factor : (rule : PriorityRule) (trace : List ℕ) → markBundles rule k a trace ≤ ceilDiv k a * bestCount k a trace
   -- "after a layers list a set, its pages each named once, in any order, is answered possible exactly if pages can be put behind the
   -- trace so that MIN's rule, on the whole, holds just that set after the trace's last request"
   pub possible-is-what-min-can-hold : (places : ℕ) (calls : List LayersCall) (set : List ℕ) → distinct set ≡ true

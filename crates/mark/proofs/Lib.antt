@@ -7,3 +7,4 @@ pub mod Requests
 pub mod Blank
 pub mod Onward
 pub mod Tracing
+pub mod Standing
