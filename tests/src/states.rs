@@ -2,6 +2,7 @@
 //! states.
 
 pub mod layers;
+pub mod mark;
 pub mod queue;
 
 /// A condition of a call, broken: the refusal that is due if nothing else is wrong, and how to break it.
