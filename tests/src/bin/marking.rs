@@ -188,7 +188,8 @@ fn check_factor(k: u32, a: u32, trace: &[u32], met: &mut [usize]) {
     }
 }
 
-/// The lists of a request, as long as they need be for a trace.
+/// The lists of a request.
+#[derive(Clone, Debug, PartialEq)]
 struct Owned {
     cached: [Vec<u32>; 2],
     priorities: Vec<u64>,
@@ -210,10 +211,6 @@ impl Owned {
         let ([cache, marks], [pages, numbers, times]) = (&mut self.cached, &mut self.table);
         let (priorities, evicted) = (&mut self.priorities, &mut self.evicted);
         Lists { cache, marks, priorities, evicted, pages, numbers, times }
-    }
-
-    fn all(&self) -> (&[Vec<u32>; 2], &[u64], &[u32], &[Vec<u32>; 3]) {
-        (&self.cached, &self.priorities, &self.evicted, &self.table)
     }
 }
 
@@ -241,9 +238,9 @@ fn check_plain_requests(k: u32, a: u32, trace: &[u32], places: usize) {
         let due = mark::request(&record, count, &mut theirs.lists(), page)
             .map(|served| (served.record, served.count, served.answer));
         let got = plain::mark_request::request(&record, count, &mut ours.lists(), page);
-        if due != got || ours.all() != theirs.all() {
+        if due != got || ours != theirs {
             let input = show(k, a, "RDM", trace);
-            differs("a plain request", &input, &(&due, theirs.all()), &(&got, ours.all()));
+            differs("a plain request", &input, &(&due, &theirs), &(&got, &ours));
         }
         if let Ok((next, held, _)) = due {
             (record, count) = (next, held);

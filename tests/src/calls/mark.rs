@@ -80,15 +80,13 @@ impl Request {
         if answer.refusal > 0 {
             return;
         }
-        let fields: Vec<u32> = answer.fields.iter().map(|&field| field as u32).collect();
-        if let [_, k, a, requests, loads, evictions, t, ref inner @ .., count, _] = fields[..] {
-            if let [ki, ai, ri, ei, s, appends, joins, lifts] = *inner {
-                let layers =
-                    layers::Record { k: ki, a: ai, requests: ri, evictions: ei, s, appends, joins, lifts };
-                self.record = Record { k, a, requests, loads, evictions, t, layers };
-                self.count = count;
-            }
-        }
+        let field = |place: usize| answer.fields[place] as u32;
+        let [k, a, requests, loads, evictions, t] = [1, 2, 3, 4, 5, 6].map(field);
+        self.count = field(15);
+        self.record = Record { k, a, requests, loads, evictions, t, layers: self.record.layers.clone() };
+        let [k, a, requests, evictions] = [7, 8, 9, 10].map(field);
+        let [s, appends, joins, lifts] = [11, 12, 13, 14].map(field);
+        self.record.layers = layers::Record { k, a, requests, evictions, s, appends, joins, lifts };
     }
 }
 

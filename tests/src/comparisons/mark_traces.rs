@@ -78,7 +78,15 @@ fn long(reached: &mut Reached, rng: &mut Rng) {
     }
     let trace = vec![4; TRACE_MAX + 1];
     for (k, a) in [(3, 2), (1, 1), (256, 256), (0, 2), (3, 0), (257, 0)] {
-        reached.compare(&on_table(k, a, &trace, trace.len()));
+        let too_long = on_table(k, a, &trace, 1);
+        reached.compare(&too_long);
+        for other in LISTS {
+            for wrong in [&[1][..], &[0, 0]] {
+                let mut call = too_long.clone();
+                *other(&mut call) = Lent::new(wrong);
+                reached.compare(&call);
+            }
+        }
         reached.compare(&on_table(k, a, &trace[1..], 1));
         other_tables(reached, k, a, &trace[..20], rng);
     }

@@ -4,8 +4,13 @@
 use super::layers::Table;
 use std::collections::HashMap;
 
-/// What stands beside a cached page: unmarked before marked, then by priority, then by page.
-type Row = (bool, u64, u32);
+/// The highest bit of a cached page's row, which has the priority below it and the page in its low half. The lesser of two
+/// rows goes first. A priority is at most 9 times the number of requests, of which there are at most 65,536.
+const MARK: u64 = 1 << 63;
+
+fn row(priority: u64, page: u32) -> u64 {
+    MARK | priority << 32 | u64::from(page)
+}
 
 /// The policy over a trace.
 struct Marking {
@@ -17,7 +22,7 @@ struct Marking {
     from_below: HashMap<u32, u32>,
     /// The cached pages, for the search, and their rows at the same places.
     cache: Vec<u32>,
-    rows: Vec<Row>,
+    rows: Vec<u64>,
 }
 
 impl Marking {
@@ -39,12 +44,10 @@ impl Marking {
     /// Takes the a pages that go first out of the cache.
     fn evict(&mut self) {
         let a = self.a as usize;
-        if a < self.rows.len() {
-            self.rows.select_nth_unstable(a);
-        }
+        self.rows.select_nth_unstable(a - 1);
         self.rows.drain(..a);
         self.cache.clear();
-        self.cache.extend(self.rows.iter().map(|row| row.2));
+        self.cache.extend(self.rows.iter().map(|&row| row as u32));
     }
 
     /// 0 for a hit, 1 for a load, 2 for a load after a bundle.
@@ -52,12 +55,12 @@ impl Marking {
         let place = self.table.find(page);
         let priority = self.priority(page, place);
         if self.table.serve(self.k, self.a, page, place) {
-            self.rows.iter_mut().for_each(|row| row.0 = false);
+            self.rows.iter_mut().for_each(|row| *row &= !MARK);
         }
         let cached = self.cache.contains(&page);
         if cached {
             let at = self.cache.iter().position(|&other| other == page).unwrap_or(0);
-            self.rows[at] = (true, priority, page);
+            self.rows[at] = row(priority, page);
             return 0;
         }
         let mut answer = 1;
@@ -66,7 +69,7 @@ impl Marking {
             answer = 2;
         }
         self.cache.push(page);
-        self.rows.push((true, priority, page));
+        self.rows.push(row(priority, page));
         answer
     }
 }
