@@ -1,12 +1,14 @@
-//! Cases of marking, by hand: each comment says how a figure comes about, so that it can be followed without the
-//! model. `bin/marking.rs` works out all small traces a second way.
+//! Cases of marking, by hand: each comment says how a figure comes about, so that it can be followed without
+//! the model. `bin/marking.rs` works out all small traces a second way.
 //!
-//! A figure of a page is 9t - t0. A request of a page that is not revealed makes t one more, so where no revealed
-//! page is asked for, request number n (from 1) has t = n, and a page asked for from L0 gets 9n - n = 8n.
+//! A priority is 9t - t0. A request of a page that is not revealed makes t one more, so where no revealed
+//! page is asked for, request number n (from 1) has t = n, and a page asked for from L0 gets 9n - n, or 8n.
 
 use crate::cases::Cases;
+use crate::model::fifo::Fifo;
+use crate::model::lru::Lru;
 use crate::model::mark::{self, Lists, Record};
-use crate::model::{layers, Refusal};
+use crate::model::{layers, queue, Refusal};
 
 /// A record with its lists.
 #[derive(Clone, Debug, PartialEq)]
@@ -102,12 +104,12 @@ fn walk(k: u32, a: u32, trace: &[u32]) -> (Vec<u32>, Vec<u64>, Vec<Vec<u32>>) {
     (answers, priorities, bundles)
 }
 
-/// The shift with k 3, a 2. The layers: {1}, {1}{2}, {1}{2}{3}; 4 joins: {1,2,3}{4}; 2 is lifted and 1 and 3 fall
-/// to L0: {4}{2}; {4}{2}{5}; 6 joins: {4,2,5}{6}; {4,2,5}{6}{1}. No request is of a revealed page: 2 was in a layer
-/// of three. So t is the request's number. All are from L0, hence 8t, but for 2 at t = 5, with t0 = 2: 45 - 2 = 43.
-/// 2 had left the cache then. At 4 the marks of 1, 2, 3 are cleared, and 1 and 2 have the lowest priorities. At 5
-/// only 3 is unmarked; of the marked 2 and 4 the latter's 32 is lower. At 6 marks are cleared, and there is room. At
-/// the last request 2 and 5 are unmarked.
+/// The shift with k 3, a 2. The layers: {1}, {1}{2}, {1}{2}{3}; 4 joins: {1,2,3}{4}; 2 is lifted and 1 and 3
+/// fall to L0: {4}{2}; {4}{2}{5}; 6 joins: {4,2,5}{6}; {4,2,5}{6}{1}. No request is of a revealed page: 2 was
+/// in a layer of three. So t is the request's number. All are from L0, hence 8t, but for 2 at t = 5: its t0
+/// is 2, and 45 - 2 is 43. 2 had left the cache then. At 4 the marks of 1, 2, 3 are cleared, and 1 and 2 have the
+/// lowest priorities. At 5 only 3 is unmarked; of the marked 2 and 4 the latter's 32 is lower. At 6 marks are
+/// cleared, and there is room. At the last request 2 and 5 are unmarked.
 fn the_shift(cases: &mut Cases) {
     let (answers, priorities, bundles) = walk(3, 2, &[1, 2, 3, 4, 2, 5, 6, 1]);
     cases.same("mark, the shift", answers, vec![1, 1, 1, 2, 1, 2, 1, 2]);
@@ -134,15 +136,17 @@ fn times(cases: &mut Cases) {
     // 5 is revealed from its second request on, so t stays 1 and its priority 9 - 1.
     cases.same("mark, 5 5 5", walk(3, 2, &[5, 5, 5]), (vec![1, 0, 0], vec![8, 8, 8], vec![]));
     cases.same("mark, 5 5 5, t", Desk::after(3, 2, &[5, 5, 5]).record.t, 1);
-    // k 4, a 2: after 1 to 5 the layers are {1}{2,3,4}{5}. 1 is alone in its layer, yet not revealed, and t gets 6:
-    // 54 - 1. Then {1,..} is left and {2,3,4}{5}{1} stay: 5 is revealed now, t stays 6: 54 - 5. 3 is not: 63 - 3.
+    // k 4, a 2: after 1 to 5 the layers are {1}{2,3,4}{5}. 1 is alone in its layer, yet not revealed, and t
+    // gets 6: 54 - 1. The layers are {2,3,4}{5}{1} then. 5 is revealed now, t stays 6: 54 - 5. 3 is not, and
+    // t gets 7: 63 - 3.
     let (_, priorities, _) = walk(4, 2, &[1, 2, 3, 4, 5, 1, 5, 3]);
     cases.same("mark, alone below others", priorities, vec![8, 16, 24, 32, 40, 53, 49, 60]);
 }
 
 /// t0 lives as long as a layer above L0 has the page.
 fn remembered(cases: &mut Cases) {
-    // A page that is cached falls to L0: 2 is lifted out of {1,2,3}. 3 keeps its priority, and has no t0 any more.
+    // A page that is cached falls to L0: 2 is lifted out of {1,2,3}. 3 keeps its priority, and has no t0 any
+    // more.
     let fallen = Desk::after(3, 2, &[1, 2, 3, 4, 2]);
     cases.same("mark, 3 fell to L0", fallen.table(), vec![(1, 4, 4), (2, 2, 2)]);
     cases.same("mark, its priority stays", fallen.priority(3), 24);
@@ -156,15 +160,16 @@ fn remembered(cases: &mut Cases) {
     let all_fell = walk(2, 2, &[1, 2, 3, 1]);
     cases.same("mark, a = k", all_fell, (vec![1, 1, 2, 1], vec![8, 16, 24, 32], vec![vec![1, 2]]));
     cases.same("mark, a = k, the table", Desk::after(2, 2, &[1, 2, 3]).table(), vec![(1, 3, 3)]);
-    // Not cached, but in a layer: k 3, a 2, after 1 to 5 the cache has 3, 4, 5 and the layers are {1,2,3}{4}{5}.
-    // 1 is lifted: t = 6, 54 - 1, and takes the place of 3 (unmarked) and 4 (the lower of the two marked).
+    // Not cached, but in a layer: k 3, a 2, after 1 to 5 the cache has 3, 4, 5 and the layers are
+    // {1,2,3}{4}{5}. 1 is lifted: t = 6, 54 - 1, and takes the place of 3 (unmarked) and 4 (the lower of the
+    // two marked).
     let (_, priorities, bundles) = walk(3, 2, &[1, 2, 3, 4, 5, 1]);
     cases.same("mark, 1 is in a layer", priorities[5], 53);
     cases.same("mark, unmarked, then marked", bundles, vec![vec![1, 2], vec![3, 4]]);
 }
 
-/// A full buffer by hand: k 3, pages 1, 2 and 3, of which 2 is unmarked and has the highest priority. The layers are
-/// {1}{2}{7}, all of t0 0.
+/// A full buffer by hand: k 3, pages 1, 2 and 3, of which 2 is unmarked and has the highest priority. The
+/// layers are {1}{2}{7}, all of t0 0.
 fn full(a: u32) -> Desk {
     let mut desk = Desk::after(3, a, &[1, 2, 7]);
     desk.cache = vec![1, 2, 3];
@@ -180,7 +185,8 @@ fn who_goes(cases: &mut Cases) {
         let mut desk = desk.clone();
         desk.ask(page).map(|answer| (answer, desk.evicted.clone(), desk.cached()))
     };
-    // 7 is in the layers and not cached: no marks are cleared, and 2 goes first, then 1. 7 is revealed: t stays 3.
+    // 7 is in the layers and not cached: no marks are cleared, and 2 goes first, then 1. 7 is revealed: t
+    // stays 3.
     cases.same(
         "mark, a 1, lifted",
         bundle(&full(1), 7),
@@ -206,9 +212,10 @@ fn who_goes(cases: &mut Cases) {
     cases.same("mark, by page", bundle(&equal, 7), Ok((2, vec![1, 2], vec![(3, 1, u64::MAX), (7, 1, 27)])));
 }
 
-/// Equal priorities that requests lead to. k 10: page 20 first, then 11 to 18, so t = 9; then 20 again, which is
-/// revealed: 9 * 9 - 1 = 80. Then one more page, from L0 at t = 10: 90 - 10 = 80. Page 30 joins and clears the marks.
-/// 11 to 18 have 8 * 2 to 8 * 9 = 72 and go first; the ninth is the lower of the two pages with 80.
+/// Equal priorities that requests lead to. k 10: page 20 first, then 11 to 18, so t = 9; then 20 again, which
+/// is revealed: 9 * 9 - 1 = 80. Then one more page, from L0 at t = 10: 90 - 10 = 80. Page 30 joins and clears
+/// the marks. 11 to 18 have 8 * 2 to 8 * 9 = 72 and go first; the ninth is the lower of the two pages with
+/// 80.
 fn equal(cases: &mut Cases) {
     for (other, ninth, tenth) in [(19, 19, 20), (21, 20, 21)] {
         let trace: Vec<u32> = [20].into_iter().chain(11..19).chain([20, other, 30]).collect();
@@ -217,6 +224,22 @@ fn equal(cases: &mut Cases) {
         let all = [&first[..], &[tenth]].concat();
         cases.same(&format!("mark, 20 and {}, a 10", other), walk(10, 10, &trace).2, vec![all]);
     }
+}
+
+/// Beside LRU and oldest load. k 2, a 1: at the second requests of 1 and 2 both are revealed and t stays 2,
+/// so they get 18 - 1 and 18 - 2. For 3, which joins, 2 goes, though it was asked for last and loaded last;
+/// the others let 1 go.
+fn beside_others(cases: &mut Cases) {
+    let counts = |trace: &[u32]| {
+        let marking = mark::run(mark::rdm, 2, 1, trace).map(|run| run.bundles.len());
+        let recent = queue::run::<Lru>(2, 1, trace).map(|run| run.bundles.len());
+        let oldest = queue::run::<Fifo>(2, 1, trace).map(|run| run.bundles.len());
+        [marking, recent, oldest].map(|count| count.expect("k and a are sound"))
+    };
+    let (_, priorities, bundles) = walk(2, 1, &[1, 2, 1, 2, 3]);
+    cases.same("mark, 1 2 1 2 3", (priorities, bundles), (vec![8, 16, 17, 16, 24], vec![vec![2]]));
+    cases.same("mark, then 1", counts(&[1, 2, 1, 2, 3, 1]), [1, 2, 2]);
+    cases.same("mark, then 2", counts(&[1, 2, 1, 2, 3, 2]), [2, 1, 1]);
 }
 
 /// What stands behind the count, past k and in the evicted list.
@@ -315,7 +338,8 @@ fn refusals(cases: &mut Cases) {
         WRONG[second].2(&mut wrong);
         cases.same(&format!("mark, {} and {}", first, second), wrong.ask(9), Err(WRONG[first].1));
     }
-    // Accepted: priorities of any size, t0 0 in a used place, anything behind the count, loads below the count.
+    // Accepted: priorities of any size, t0 0 in a used place, anything behind the count, loads below the
+    // count.
     let mut odd = sound;
     odd.priorities = vec![u64::MAX, 0, 5];
     (odd.cache[2], odd.marks[2]) = (0, 7);
@@ -383,6 +407,7 @@ pub fn all(cases: &mut Cases) {
     remembered(cases);
     who_goes(cases);
     equal(cases);
+    beside_others(cases);
     places(cases);
     refusals(cases);
     whole(cases);

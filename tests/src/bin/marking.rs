@@ -1,12 +1,14 @@
-//! Compares the model of marking with a second way to work it out, with its plain version and with the best count.
+//! Compares the model of marking with a second way to work it out, with its plain version and with the best
+//! count.
 //!
-//! - On every trace of up to 6 requests for 4 pages, with k up to 4, marking is worked out without layers: a page is in L0
-//!   exactly if MIN may hold it for no continuation, and revealed exactly if MIN holds it for every one; marks
-//!   are cleared where one more request raises MIN's count; t0 is looked up in the past requests. All bundles are the same,
-//!   with RDM and with each other rule of priorities below.
-//! - On those of up to 7 requests and on drawn ones, marking's count is at most k/a, rounded up, times MIN's and times the
-//!   layers', with each rule of priorities.
-//! - On these the plain version has the same counts, table and t0, and its single requests leave the same lists.
+//! - On every trace of up to 6 requests for 4 pages, with k up to 4, marking is worked out without layers: a
+//!   page is in L0 exactly if MIN may hold it for no continuation, and revealed exactly if MIN holds it for
+//!   every one; marks are cleared where one more request raises MIN's count; t0 is looked up in the past
+//!   requests. All bundles are the same, with RDM and with each other rule of priorities below.
+//! - On those of up to 7 requests and on drawn ones, marking's count is at most k/a, rounded up, times MIN's
+//!   and times the layers', with each rule of priorities.
+//! - On these the plain version has the same counts, table and t0, and its single requests leave the same
+//!   lists.
 
 use bench_tests::model::mark::{self, Cached, Lists, Priorities, Record};
 use bench_tests::model::{layers, min, Bundle};

@@ -23,8 +23,8 @@ pub struct Request {
 /// The number of fields of a request's answer.
 const FIELDS: usize = 17;
 
-/// The kinds of a bundle: of unmarked pages, of unmarked ones and then marked ones, of marked ones, and before these
-/// one that equal priorities leave to the page numbers.
+/// The kinds of a bundle: of unmarked pages, of unmarked ones and then marked ones, of marked ones, and
+/// before these one that equal priorities leave to the page numbers.
 const BUNDLES: [&str; 4] = ["unmarked", "unmarked, then marked", "marked", "by page"];
 
 fn fields(served: &Served) -> [u64; FIELDS] {
@@ -51,8 +51,8 @@ impl Request {
         (&self.record, self.count, lists)
     }
 
-    /// The kind of an accepted request's answer. `self` is the call before it was served, but a request that joins has
-    /// cleared the marks.
+    /// The kind of an accepted request's answer. `self` is the call before it was served, but a request that
+    /// joins has cleared the marks.
     fn kind(&self, served: &Served, evicted: &[u32]) -> &'static str {
         if served.answer < 2 {
             return ["hit", "load"][served.answer as usize];

@@ -6,12 +6,13 @@ use crate::calls::{Call, Lent, Reached};
 use crate::model::mark::Record;
 use crate::report::differs;
 use crate::rng::Rng;
-use crate::states::mark::{all_small, drawn, wide, Draft, FAULTS, NOT_JUDGED};
+use crate::states::mark::{all_small, drawn, wide, Draft};
+use crate::states::mark_faults::{FAULTS, NOT_JUDGED};
 use crate::states::{border_sizes, end_page, layers};
 use crate::traces::{any, any_parked, sizes};
 
-/// Lists of requests, from the empty record and an unused table on, at times too small. What an accepted request left
-/// is never 9. Where none was refused, the whole trace leaves the same table.
+/// Lists of requests, from the empty record and an unused table on, at times too small. What an accepted
+/// request left is never 9. Where none was refused, the whole trace leaves the same table.
 fn walks(reached: &mut Reached, rng: &mut Rng) {
     for turn in 0..300 {
         let (k, a) = sizes(rng);
@@ -51,8 +52,8 @@ fn whole(reached: &mut Reached, call: &Request, trace: Vec<u32>, places: usize) 
     }
 }
 
-/// States that requests reach with each condition broken, the layers' own ones too, and with what no condition
-/// speaks of.
+/// States that requests reach with each condition broken, the layers' own ones too, and with what no
+/// condition speaks of.
 fn faults(reached: &mut Reached, rng: &mut Rng) {
     let (mut alone, mut layers_alone) = ([0; FAULTS.len()], [0; layers::FAULTS.len()]);
     let mut spared = [0; NOT_JUDGED.len()];
@@ -76,7 +77,8 @@ fn faults(reached: &mut Reached, rng: &mut Rng) {
     all_met(Request::NAME, &NOT_JUDGED, &spared);
 }
 
-/// The layers' own faults: in their record alone, where another k, a or request count is 9, and in both records.
+/// The layers' own faults: in their record alone, where another k, a or request count is 9, and in both
+/// records.
 fn break_layers(reached: &mut Reached, sound: &Draft, alone: &mut [usize]) {
     for (place, fault) in layers::FAULTS.iter().enumerate() {
         let mut broken = sound.clone();
@@ -96,7 +98,8 @@ fn break_layers(reached: &mut Reached, sound: &Draft, alone: &mut [usize]) {
 
 const FULL: u32 = u32::MAX;
 
-/// Requests, loads, evictions, t, and the layers' evictions, appends and lifts, which have the rest of the requests.
+/// Requests, loads, evictions, t, and the layers' evictions, appends and lifts, which have the rest of the
+/// requests.
 const COUNTERS: [[u32; 7]; 7] = [
     [0, 0, 0, 0, 0, 0, 0],
     [FULL - 1, FULL - 1, FULL - 1, FULL - 1, 0, 1, FULL - 2],
@@ -107,8 +110,8 @@ const COUNTERS: [[u32; 7]; 7] = [
     [5, 4, 3, 2, 1, 2, 2],
 ];
 
-/// k and a, counters, counts and pages at the ends of their ranges, on tables without a used place and with the layers
-/// of k different pages.
+/// k and a, counters, counts and pages at the ends of their ranges, on tables without a used place and with
+/// the layers of k different pages.
 fn borders(reached: &mut Reached, rng: &mut Rng) {
     for (k, a) in border_sizes() {
         for [requests, loads, evictions, t, joins, appends, lifts] in COUNTERS {

@@ -18,8 +18,9 @@ fn on_table(k: u32, a: u32, trace: &[u32], places: usize) -> OverTrace {
 const LISTS: [fn(&mut OverTrace) -> &mut Lent<u32>; 3] =
     [|call| &mut call.pages, |call| &mut call.numbers, |call| &mut call.times];
 
-/// Tables with as many places as the layers take at the end, one less, one more and others; each of these with one
-/// list a place longer, with a place that is used in one list, the first, the last or a drawn one, and with both.
+/// Tables with as many places as the layers take at the end, one less, one more and others; each of these
+/// with one list a place longer, with a place that is used in one list, the first, the last or a drawn one,
+/// and with both.
 fn other_tables(reached: &mut Reached, k: u32, a: u32, trace: &[u32], rng: &mut Rng) {
     let (left, _) = reached.compare(&on_table(k, a, trace, trace.len()));
     let most = left.numbers.list().iter().filter(|&&number| number > 0).count();
@@ -57,8 +58,8 @@ fn short(reached: &mut Reached, rng: &mut Rng) {
     }
 }
 
-/// Every trace of up to 7 requests for 4 pages, with every k and a up to 4, on a table with a place for each page that is
-/// asked for.
+/// Every trace of up to 7 requests for 4 pages, with every k and a up to 4, on a table with a place for each
+/// page that is asked for.
 fn all_small(reached: &mut Reached) {
     for trace in lists(4, 7) {
         let places = trace.len().min(4);

@@ -1,6 +1,6 @@
 //! Marking with revealed pages, from Req 09 and source document 001: the policy OPTMark, with the priorities
-//! RDM or with any other rule. Each cached page has its mark and its priority in a map, and the layers are those of
-//! `layers`, of which the policy asks where the requested page is.
+//! RDM or with any other rule. Each cached page has its mark and its priority in a map, and the layers are
+//! those of `layers`, of which the policy asks where the requested page is.
 
 use super::layers::{self, Layers};
 use super::{check_sizes, check_trace, Bundle, Refusal};
@@ -66,8 +66,8 @@ pub struct State {
     pub record: Record,
     pub cached: BTreeMap<u32, Cached>,
     pub layers: Layers,
-    /// t at the last request from L0 of each page. For a page that falls back to L0 it means nothing any more: its
-    /// next request is from L0 and puts another in its place before it is looked at.
+    /// t at the last request from L0 of each page. For a page that falls back to L0 it means nothing any
+    /// more: its next request is from L0 and puts another in its place before it is looked at.
     from_below: BTreeMap<u32, u32>,
 }
 
@@ -165,7 +165,8 @@ fn places_fit(record: &Record, lists: &Lists) -> bool {
         && [lists.numbers.len(), lists.times.len()] == [lists.pages.len(); 2]
 }
 
-/// Whether the policy's own counts and cached pages are well formed and the layers' record is of the same run.
+/// Whether the policy's own counts and cached pages are well formed and the layers' record is of the same
+/// run.
 fn well_formed(record: &Record, count: u32, lists: &Lists) -> bool {
     let held = count.min(record.k) as usize;
     let Record { k, a, requests, layers, .. } = record;
@@ -240,7 +241,8 @@ pub struct Run {
     pub state: State,
 }
 
-/// A whole trace with a rule of priorities, and room for so many pages in the layers: 10 where they are not enough.
+/// A whole trace with a rule of priorities, and room for so many pages in the layers: 10 where they are not
+/// enough.
 fn run_within(rule: Priorities, k: u32, a: u32, trace: &[u32], places: usize) -> Result<Run, Refusal> {
     let mut run = Run { bundles: Vec::new(), state: State::empty(k, a) };
     for (t, &page) in trace.iter().enumerate() {
@@ -261,8 +263,8 @@ pub fn run(rule: Priorities, k: u32, a: u32, trace: &[u32]) -> Result<Run, Refus
     run_within(rule, k, a, trace, trace.len())
 }
 
-/// A whole trace with RDM on a lent table that is all unused: 1, 2, 3, 8 for unequal lists, 9 where a place is
-/// used, 10. A refusal leaves the table as it was lent.
+/// A whole trace with RDM on a lent table that is all unused: 1, 2, 3, 8 for unequal lists, 9 where a place
+/// is used, 10. A refusal leaves the table as it was lent.
 pub fn over_trace(
     k: u32,
     a: u32,

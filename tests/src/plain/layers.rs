@@ -59,8 +59,8 @@ impl Table {
         }
     }
 
-    /// Whether the page of a place is revealed: from it on there are as many pages as layers, so each layer has
-    /// one, and no other page of its own layer stands before it.
+    /// Whether the page of a place is revealed: from it on there are as many pages as layers, so each layer
+    /// has one, and no other page of its own layer stands before it.
     #[inline]
     pub fn is_revealed(&self, place: usize) -> bool {
         let number = self.numbers[place];

@@ -1,11 +1,12 @@
-//! Marking with revealed pages: the layers in their plain table, t0 in a hash map by page, the cache in two lists
-//! without an order; a bundle is found by selection.
+//! Marking with revealed pages: the layers in their plain table, t0 in a hash map by page, the cache in two
+//! lists without an order; a bundle is found by selection.
 
 use super::layers::Table;
 use std::collections::HashMap;
 
-/// The highest bit of a cached page's row, which has the priority below it and the page in its low half. The lesser of two
-/// rows goes first. A priority is at most 9 times the number of requests, of which there are at most 65,536.
+/// The highest bit of a cached page's row, which has the priority below it and the page in its low half. The
+/// lesser of two rows goes first. A priority is at most 9 times the number of requests, of which there are at
+/// most 65,536.
 const MARK: u64 = 1 << 63;
 
 fn row(priority: u64, page: u32) -> u64 {

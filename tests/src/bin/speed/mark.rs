@@ -1,4 +1,5 @@
-//! Marking: whole traces and single checked requests, beside the plain versions and beside the calls that they stand on.
+//! Marking: whole traces and single checked requests, beside the plain versions and beside the calls that
+//! they stand on.
 
 use crate::{long_table, low_half_zero, traces, tug, K};
 use bench_tests::exported::{exports, marking};
