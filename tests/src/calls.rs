@@ -4,6 +4,7 @@
 pub mod editions;
 pub mod files;
 pub mod layers;
+pub mod mark;
 pub mod min;
 pub mod queue;
 

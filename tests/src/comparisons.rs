@@ -3,6 +3,8 @@
 pub mod editions;
 pub mod files;
 pub mod layers;
+pub mod mark;
+pub mod mark_traces;
 pub mod queue;
 pub mod runs;
 pub mod traces;

@@ -8,3 +8,6 @@ pub mod exports;
 /// target/staticlib/libjudge.a
 #[cfg(feature = "judge")]
 pub mod judge;
+/// target/staticlib/libexports.a, the calls of marking
+#[cfg(feature = "exports")]
+pub mod marking;

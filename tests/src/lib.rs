@@ -6,11 +6,13 @@
 
 #[cfg(feature = "exports")]
 pub mod calls;
+pub mod cases;
 #[cfg(feature = "exports")]
 pub mod comparisons;
 pub mod damage;
 pub mod exported;
 pub mod judge_cases;
+pub mod mark_cases;
 pub mod model;
 pub mod orders;
 pub mod plain;
@@ -18,6 +20,7 @@ pub mod programs;
 pub mod report;
 pub mod rng;
 pub mod schedules;
+pub mod small;
 #[cfg(feature = "exports")]
 pub mod states;
 pub mod timing;

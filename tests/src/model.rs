@@ -1,6 +1,6 @@
-//! Document 01's rules, Req 01's for oldest load first, Req 02's for what the layers answer and count by rule,
-//! Req 03's for runs of one page, and Req 08's for the two editions of a trace: the limits, and a file for
-//! each part.
+//! Document 01's rules, Req 01's for oldest load first, Req 02's for what the layers answer and count by
+//! rule, Req 03's for runs of one page, Req 08's for the two editions of a trace, and Req 09's for marking:
+//! the limits, and a file for each part.
 
 pub mod editions;
 pub mod fifo;
@@ -9,6 +9,7 @@ pub mod judge;
 pub mod layers;
 pub mod lines;
 pub mod lru;
+pub mod mark;
 pub mod min;
 pub mod queue;
 

@@ -2,6 +2,8 @@
 //! states.
 
 pub mod layers;
+pub mod mark;
+pub mod mark_faults;
 pub mod queue;
 
 /// A condition of a call, broken: the refusal that is due if nothing else is wrong, and how to break it.

@@ -83,6 +83,8 @@ fn named(bench: &mut Bench) {
     bench.check("5 5 5", &trace_file(3, 2, &[5, 5, 5]));
     bench.check("LRU makes fewer bundles than oldest load", &trace_file(3, 1, &[1, 2, 3, 1, 4, 1]));
     bench.check("oldest load makes fewer bundles than LRU", &trace_file(3, 1, &[1, 2, 3, 1, 4, 2]));
+    bench.check("marking makes fewer bundles than both", &trace_file(2, 1, &[1, 2, 1, 2, 3, 1]));
+    bench.check("marking makes more bundles than both", &trace_file(2, 1, &[1, 2, 1, 2, 3, 2]));
     bench.check("pages at the ends", &trace_file(2, 1, &[0, u32::MAX, 1, 0, u32::MAX, 0]));
     for tail in [&b"R"[..], b"RQ", b"RQ\x01\0\0", b"KA\x01\0\x01\0", b"X", b"XX", b"PF\0"] {
         let input = [&trace_file(3, 2, &[1, 2, 3, 4])[..], tail].concat();

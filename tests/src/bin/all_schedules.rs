@@ -21,6 +21,7 @@ use bench_tests::model::queue::{self, Policy};
 use bench_tests::model::{judge, min};
 use bench_tests::orders::{against, Against};
 use bench_tests::report::differs;
+use bench_tests::small::{arrangements, held_sets, lists, sizes};
 use bench_tests::traces::every_edition;
 use std::cmp::Ordering;
 use std::collections::{BTreeSet, HashSet};
@@ -147,24 +148,6 @@ fn check_order(k: u32, a: u32, trace: &[u32], found: &mut Against) -> usize {
     run.bundles.len()
 }
 
-/// Continuations without a repeated page, over pages 0 to 3: what MIN's rule asks of the future is
-/// only the order in which pages are first requested in it, so these stand for all.
-fn arrangements(used: u32, so_far: &[u32], out: &mut Vec<Vec<u32>>) {
-    out.push(so_far.to_vec());
-    for page in (0..PAGES).filter(|page| used & (1 << page) == 0) {
-        let longer = [so_far, &[page]].concat();
-        arrangements(used | 1 << page, &longer, out);
-    }
-}
-
-fn held_sets(k: u32, a: u32, trace: &[u32], continuations: &[Vec<u32>]) -> HashSet<BTreeSet<u32>> {
-    let held = |more: &Vec<u32>| {
-        let whole = [trace, more].concat();
-        min::run_until(k, a, &whole, trace.len()).expect("k and a are sound").held
-    };
-    continuations.iter().map(held).collect()
-}
-
 /// The possible sets after a trace, and the layer rule of one more request.
 fn check_sets(k: u32, a: u32, trace: &[u32], continuations: &[Vec<u32>]) {
     let held = held_sets(k, a, trace, continuations);
@@ -198,22 +181,6 @@ fn check_rules(k: u32, a: u32, trace: &[u32], held: &HashSet<BTreeSet<u32>>, lay
             differs("the rule of the last request", &show(k, a, &longer), &due, &rule);
         }
     }
-}
-
-/// All lists over some number of symbols, up to a length, the shorter ones first.
-fn lists(symbols: u32, length: usize) -> Vec<Vec<u32>> {
-    let mut out: Vec<Vec<u32>> = vec![vec![]];
-    let mut from = 0;
-    for _ in 0..length {
-        let to = out.len();
-        for place in from..to {
-            for symbol in 0..symbols {
-                out.push([&out[place][..], &[symbol]].concat());
-            }
-        }
-        from = to;
-    }
-    out
 }
 
 /// Every EV and PF that a file may name for n requests, pages 0 to 2 and n up to 2, wrong ones too.
@@ -324,9 +291,8 @@ fn all_orders(bundles: usize, Against { numbers, loads }: Against) {
 }
 
 fn main() {
-    let sizes: Vec<(u32, u32)> = (1..=4).flat_map(|k| (1..=k).map(move |a| (k, a))).collect();
-    let mut continuations = Vec::new();
-    arrangements(0, &[], &mut continuations);
+    let sizes = sizes();
+    let continuations = arrangements(PAGES);
     let repeating = lists(PAGES, 4);
     let (mut counts, mut sets) = (0, 0);
     let (mut recent_lower, mut oldest_lower) = (0, 0);

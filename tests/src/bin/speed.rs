@@ -2,7 +2,10 @@
 //! Run it by tests/speed. Usage: speed PROGRAM PLAIN_PROGRAM [PART ..]
 //!
 //! PROGRAM is `bench`, PLAIN_PROGRAM plain_bench; a PART is one of bench, next, min, lru, fifo, preview, layers,
-//! judge, editions, and without any all are timed. Each time is the least of several repeats.
+//! judge, editions, mark, and without any all are timed. Each time is the least of several repeats.
+
+#[path = "speed/mark.rs"]
+mod mark;
 
 use bench_tests::calls::queue::Exported;
 use bench_tests::exported::exports;
@@ -500,7 +503,7 @@ fn time_editions(table: &mut Table) {
 type Part = (&'static str, &'static [fn(&mut Table)]);
 
 /// All parts but `bench`, which needs the two programs.
-const PARTS: [Part; 8] = [
+const PARTS: [Part; 9] = [
     ("next", &[time_next]),
     ("min", &[time_min, time_min_schedule]),
     ("lru", &[time_policy::<Lru>]),
@@ -509,6 +512,7 @@ const PARTS: [Part; 8] = [
     ("layers", &[time_layers, time_layers_requests]),
     ("judge", &[time_judge, time_fetches]),
     ("editions", &[time_editions]),
+    ("mark", &[mark::time_traces, mark::time_beside_layers, mark::time_requests]),
 ];
 
 fn main() {

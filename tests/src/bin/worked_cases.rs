@@ -1,40 +1,30 @@
 //! Document 01's worked cases and those of document 02's requests, by hand, against the second
 //! implementation: a reader who doubts the model starts here. Nothing of the proved crates is run.
 
+use bench_tests::cases::Cases;
+use bench_tests::mark_cases;
 use bench_tests::model::editions::{convert, new_edition, old_edition, printed, Edition};
 use bench_tests::model::fifo::Fifo;
 use bench_tests::model::layers::{self, Layers, Possible};
 use bench_tests::model::lru::Lru;
 use bench_tests::model::queue::{self, Policy, Record};
-use bench_tests::model::{files, judge, lines, min, BENCH_MAX, TRACE_MAX};
-use bench_tests::report::differs;
+use bench_tests::model::{files, judge, lines, mark, min, BENCH_MAX, TRACE_MAX};
 use std::collections::BTreeSet;
-use std::fmt::Debug;
 
 const SHIFT: [u32; 8] = [1, 2, 3, 4, 2, 5, 6, 1];
-
-struct Cases(u32);
-
-impl Cases {
-    fn same<T: PartialEq + Debug>(&mut self, name: &str, got: T, expected: T) {
-        if got != expected {
-            differs("worked cases", &[("case", name.to_string())], &expected, &got);
-        }
-        self.0 += 1;
-    }
-}
 
 fn sets(layers: &[&[u32]]) -> Layers {
     layers.iter().map(|layer| layer.iter().copied().collect()).collect()
 }
 
-/// The bundles of MIN, LRU, oldest load first and the layers.
-fn bundles(k: u32, a: u32, trace: &[u32]) -> [u32; 4] {
+/// The bundles of MIN, LRU, oldest load first, marking and the layers.
+fn bundles(k: u32, a: u32, trace: &[u32]) -> [u32; 5] {
     let best = min::run(k, a, trace).map(|run| run.bundles.len() as u32);
     let recent = queue::run::<Lru>(k, a, trace).map(|run| run.bundles.len() as u32);
     let oldest = queue::run::<Fifo>(k, a, trace).map(|run| run.bundles.len() as u32);
+    let marking = mark::run(mark::rdm, k, a, trace).map(|run| run.bundles.len() as u32);
     let layered = layers::run(k, a, trace).map(|run| run.record.evictions);
-    [best, recent, oldest, layered].map(|count| count.expect("k and a are sound"))
+    [best, recent, oldest, marking, layered].map(|count| count.expect("k and a are sound"))
 }
 
 /// The pages of each bundle.
@@ -99,16 +89,16 @@ fn marked(cases: &mut Cases) {
     cases.same(
         "1",
         lines::lines(&file),
-        "trace 3 2 8\nmin 2 7\nlru 3 8\nfifo 3 8\nlayers 2 3 2\n".to_string(),
+        "trace 3 2 8\nmin 2 7\nlru 3 8\nfifo 3 8\nmark 3 8\nlayers 2 3 2\n".to_string(),
     );
     let best = min::run(3, 2, &SHIFT).map(|run| run.bundles);
     cases.same("2", best, Ok(vec![(3, vec![3, 1]), (6, vec![4, 2])]));
     cases.same("3", evicted::<Lru>(3, 2, &SHIFT), vec![vec![1, 2], vec![3, 4], vec![2, 5]]);
     let layered = layers::run(3, 2, &SHIFT).map(|run| run.layers);
     cases.same("4", layered, Ok(sets(&[&[2, 4, 5], &[6], &[1]])));
-    cases.same("7", bundles(2, 2, &[1, 2, 3]), [1, 1, 1, 1]);
+    cases.same("7", bundles(2, 2, &[1, 2, 3]), [1; 5]);
     cases.same("7, s", last_s(2, 2, 3, &[1, 2, 3]), Ok(1));
-    cases.same("8", bundles(1, 1, &[1, 2, 1]), [2, 2, 2, 2]);
+    cases.same("8", bundles(1, 1, &[1, 2, 1]), [2; 5]);
     cases.same("9", last_s(2, 1, 2, &[1, 2, 3]), Err(10));
     cases.same("9, a 2", last_s(2, 2, 2, &[1, 2, 3]), Ok(1));
     cases.same("10", last_s(2, 1, 3, &[1, 2, 3, 1, 4]), Ok(2));
@@ -130,9 +120,9 @@ fn questions(cases: &mut Cases) {
 }
 
 fn others(cases: &mut Cases) {
-    cases.same("k 256", bundles(256, 256, &SHIFT), [0, 0, 0, 0]);
+    cases.same("k 256", bundles(256, 256, &SHIFT), [0; 5]);
     cases.same("k 257", min::run(257, 1, &SHIFT), Err(1));
-    cases.same("a = k", bundles(3, 3, &SHIFT), [2, 2, 2, 2]);
+    cases.same("a = k", bundles(3, 3, &SHIFT), [2; 5]);
     cases.same("a = k + 1", min::run(3, 4, &SHIFT), Err(2));
     let mut bytes = [7; 40];
     let length =
@@ -142,7 +132,7 @@ fn others(cases: &mut Cases) {
     cases.same(
         "its lines",
         lines::lines(&empty),
-        "trace 3 2 0\nmin 0 0\nlru 0 0\nfifo 0 0\nlayers 0 0 0\n".to_string(),
+        "trace 3 2 0\nmin 0 0\nlru 0 0\nfifo 0 0\nmark 0 0\nlayers 0 0 0\n".to_string(),
     );
     cases.same("5 5 5", min::run(3, 2, &[5, 5, 5]).map(|run| (run.bundles, run.loads)), Ok((vec![], 1)));
     let mut bytes = [7; 40];
@@ -270,7 +260,7 @@ fn runs(cases: &mut Cases) {
     let one = |page| files::Asked::Rq { page };
     let tug = files::trace_of(3, 2, &[run(5, 3)]);
     cases.same("5 x 3's bytes", tug.clone(), b"KA\x03\0\x02\0RR\x05\0\0\0\x03\0".to_vec());
-    let line = "trace 3 2 3\nmin 0 1\nlru 0 1\nfifo 0 1\nlayers 0 1 1\n".to_string();
+    let line = "trace 3 2 3\nmin 0 1\nlru 0 1\nfifo 0 1\nmark 0 1\nlayers 0 1 1\n".to_string();
     cases.same("5 x 3", lines::lines(&tug), line.clone());
     cases.same("5 5 5", lines::lines(&files::trace_file(3, 2, &[5, 5, 5])), line.clone());
     cases.same("5 x 2, 5", lines::lines(&files::trace_of(3, 2, &[run(5, 2), one(5)])), line.clone());
@@ -288,7 +278,7 @@ fn runs(cases: &mut Cases) {
     cases.same(
         "the shift with a parked tug",
         lines::lines(&parked),
-        "trace 3 2 308\nmin 2 7\nlru 3 8\nfifo 3 8\nlayers 2 3 2\n".to_string(),
+        "trace 3 2 308\nmin 2 7\nlru 3 8\nfifo 3 8\nmark 3 8\nlayers 2 3 2\n".to_string(),
     );
     let best = files::read_trace(&parked, 308).and_then(|trace| min::run(3, 2, &trace.pages));
     cases.same("its bundles", best.map(|run| run.bundles), Ok(vec![(3, vec![3, 1]), (305, vec![4, 2])]));
@@ -461,7 +451,7 @@ fn edition_programs(cases: &mut Cases) {
 }
 
 fn main() {
-    let mut cases = Cases(0);
+    let mut cases = Cases::default();
     marked(&mut cases);
     questions(&mut cases);
     others(&mut cases);
@@ -480,5 +470,6 @@ fn main() {
     long_editions(&mut cases);
     edition_refusals(&mut cases);
     edition_programs(&mut cases);
+    mark_cases::all(&mut cases);
     println!("worked cases: {} agree", cases.0);
 }

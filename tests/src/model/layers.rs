@@ -91,7 +91,7 @@ pub fn serve(k: u32, a: u32, layers: &mut Layers, page: u32) -> Rule {
 }
 
 /// Serves a page and counts the request; 1b counts a bundle too.
-fn serve_counted(record: &mut Record, layers: &mut Layers, page: u32) -> Rule {
+pub(super) fn serve_counted(record: &mut Record, layers: &mut Layers, page: u32) -> Rule {
     let rule = serve(record.k, record.a, layers, page);
     record.requests += 1;
     record.evictions += u32::from(rule == Rule::Join);
@@ -139,7 +139,7 @@ fn counts_fit(record: &Record) -> bool {
 }
 
 /// The refusals that requests and questions share, in order: 1, 2, 8, 9.
-fn check(record: &Record, pages: &[u32], numbers: &[u32]) -> Result<Layers, Refusal> {
+pub(super) fn check(record: &Record, pages: &[u32], numbers: &[u32]) -> Result<Layers, Refusal> {
     check_sizes(record.k, record.a)?;
     if pages.len() != numbers.len() {
         return Err(8);
@@ -193,7 +193,7 @@ pub fn revealed(record: &Record, pages: &[u32], numbers: &[u32]) -> Result<u32, 
 }
 
 /// The number of the layer that a page is in, 0 for L0.
-fn number_of(layers: &Layers, page: u32) -> usize {
+pub fn number_of(layers: &Layers, page: u32) -> usize {
     (1..).zip(layers).find(|(_, layer)| layer.contains(&page)).map_or(0, |(number, _)| number)
 }
 

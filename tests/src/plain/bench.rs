@@ -1,7 +1,7 @@
 //! The lines for a sound trace.
 
 use super::judge::trace_pages;
-use super::{fifo, layers, lru, min};
+use super::{fifo, layers, lru, mark, min};
 
 pub fn lines(input: &[u8]) -> Option<String> {
     let pages = trace_pages(input)?;
@@ -10,9 +10,10 @@ pub fn lines(input: &[u8]) -> Option<String> {
     let best = min::run(k, a, &pages, |_, _| {});
     let recent = lru::run(k, a, &pages);
     let oldest = fifo::run(k, a, &pages);
+    let marking = mark::run(k, a, &pages);
     let (bundles, table) = layers::run(k, a, &pages);
     Some(format!(
-        "trace {} {} {}\nmin {} {}\nlru {} {}\nfifo {} {}\nlayers {} {} {}\n",
+        "trace {} {} {}\nmin {} {}\nlru {} {}\nfifo {} {}\nmark {} {}\nlayers {} {} {}\n",
         k,
         a,
         pages.len(),
@@ -22,6 +23,8 @@ pub fn lines(input: &[u8]) -> Option<String> {
         recent.1,
         oldest.0,
         oldest.1,
+        marking.0,
+        marking.1,
         bundles,
         table.s,
         table.revealed()

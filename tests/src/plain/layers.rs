@@ -47,11 +47,36 @@ impl Table {
         self.s -= 1;
     }
 
-    /// One request with no check of the state; true if a bundle is counted.
-    pub fn request(&mut self, k: u32, a: u32, page: u32) -> bool {
+    /// The place of a page.
+    #[inline]
+    pub fn find(&self, page: u32) -> Option<usize> {
         // A look at the whole list first: it is quicker than the search for the place.
         let held = self.pages.contains(&page);
-        let place = if held { self.pages.iter().position(|&other| other == page) } else { None };
+        if held {
+            self.pages.iter().position(|&other| other == page)
+        } else {
+            None
+        }
+    }
+
+    /// Whether the page of a place is revealed: from it on there are as many pages as layers, so each layer
+    /// has one, and no other page of its own layer stands before it.
+    #[inline]
+    pub fn is_revealed(&self, place: usize) -> bool {
+        let number = self.numbers[place];
+        let from_here = self.pages.len() - place;
+        from_here == (self.s - number) as usize + 1 && (place == 0 || self.numbers[place - 1] < number)
+    }
+
+    /// One request with no check of the state; true if a bundle is counted.
+    pub fn request(&mut self, k: u32, a: u32, page: u32) -> bool {
+        let place = self.find(page);
+        self.serve(k, a, page, place)
+    }
+
+    /// The same for a page that was found at this place or not at all.
+    #[inline]
+    pub fn serve(&mut self, k: u32, a: u32, page: u32, place: Option<usize>) -> bool {
         let counted = place.is_none() && self.s == k;
         match place {
             Some(place) => self.lift(place),

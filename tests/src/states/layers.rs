@@ -163,7 +163,7 @@ fn lower(field: &mut u32) -> bool {
 }
 
 /// Raises requests to a number; those that are added are all counted for one rule.
-fn count_up(record: &mut Record, requests: u32, rule: Rule) -> bool {
+pub fn count_up(record: &mut Record, requests: u32, rule: Rule) -> bool {
     let more = requests.wrapping_sub(record.requests);
     let count = record.count_of(rule);
     *count = count.wrapping_add(more);
@@ -296,13 +296,13 @@ fn low_not_single(draft: &mut Draft) -> bool {
 }
 
 /// No place is free, and the page is none of the table's. With a = k everything would join L0 at 1b.
-fn no_place(draft: &mut Draft) -> bool {
+pub fn no_place(draft: &mut Draft) -> bool {
     draft.page = draft.fresh();
     draft.spare = 0;
     draft.record.s < draft.record.k || draft.record.a < draft.record.k
 }
 
-const RULES: [Rule; 3] = [Rule::Append, Rule::Join, Rule::Lift];
+pub const RULES: [Rule; 3] = [Rule::Append, Rule::Join, Rule::Lift];
 
 /// A sound state after a drawn trace, on a table with some places to spare or none.
 fn drawn_sound(k: u32, a: u32, rng: &mut Rng) -> Draft {
@@ -345,7 +345,7 @@ fn disturb_counters(record: &mut Record, rng: &mut Rng) {
 }
 
 /// One change to a state, which may leave it sound.
-fn disturb(draft: &mut Draft, rng: &mut Rng) {
+pub fn disturb(draft: &mut Draft, rng: &mut Rng) {
     let places = draft.rows.len();
     let noise = rng.word();
     let value = rng.pick(&[0, 1, 2, draft.record.s, draft.record.s.wrapping_add(1), noise]);
