@@ -79,6 +79,7 @@ unfolding figures
 figures-within-factor k a trace right = (
   rw (layers-count-best k a (right .a-low) (right .a-high) trace) (lru-within-factor k a (right .a-low) (right .a-high) trace),
   fifo-within-layers k a (right .a-low) (right .a-high) trace,
+  rw (layers-count-best k a (right .a-low) (right .a-high) trace) (marking-within-factor (rdm k a) k a (right .a-low) (right .a-high) trace),
 )
 
 -- All together
@@ -127,5 +128,5 @@ demand-3-holds = record {
   compares = compares;
   judge-answers-a-legal-cost = λ trace schedule bt bs bundles e. sound trace schedule bundles bt bs (number-is-cost trace schedule bundles e);
   judge-refuses-by-number = refusals-are-numbered;
-  reports-stay-within-the-factor = every-report WithinFactor (λ number. (omega arith, omega arith)) figures-within-factor;
+  reports-stay-within-the-factor = every-report WithinFactor (λ number. (omega arith, omega arith, omega arith)) figures-within-factor;
 }

@@ -135,6 +135,7 @@ sameReport x y =
     and eqb (x .min .bundles) (y .min .bundles) and eqb (x .min .loads) (y .min .loads)
     and eqb (x .lru .bundles) (y .lru .bundles) and eqb (x .lru .loads) (y .lru .loads)
     and eqb (x .fifo .bundles) (y .fifo .bundles) and eqb (x .fifo .loads) (y .fifo .loads)
+    and eqb (x .mark .bundles) (y .mark .bundles) and eqb (x .mark .loads) (y .mark .loads)
     and eqb (x .layers .bundles) (y .layers .bundles) and eqb (x .layers .s) (y .layers .s) and eqb (x .layers .revealed) (y .layers .revealed)
 
 -- a verdict spelled as two numbers: its case, and the number that it holds
@@ -193,9 +194,9 @@ right (markRefuses S page number) = eqb (markCalls.requestRefusal (S .run) (S .c
 
 abbrev pub markedCases : List Row
 markedCases =
-    -- 1. the four lines' numbers, of the shift's 54 bytes, and since document 02's request 01 the line `fifo`
+    -- 1. the four lines' numbers, of the shift's 54 bytes, and since document 02's requests 01 and 09 the lines `fifo` and `mark`
     reports (traceBytes 3 2 (singles shift))
-    (record { refusal = 0; k = 3; a = 2; requests = 8; min = counts 2 7; lru = counts 3 8; fifo = counts 3 8; layers = layersCounts 2 3 2 })
+    (record { refusal = 0; k = 3; a = 2; requests = 8; min = counts 2 7; lru = counts 3 8; fifo = counts 3 8; mark = counts 3 8; layers = layersCounts 2 3 2 })
     -- 2. MIN's bundles, since document 02's request 07 with 4 before 2
     ∷ minEvicts 3 2 shift (ev 3 (3 ∷ 1 ∷ []) ∷ ev 6 (4 ∷ 2 ∷ []) ∷ [])
     -- 3. LRU's
@@ -235,7 +236,7 @@ requestedCases =
     ∷ evicts ByLoad 3 2 (take 7 shift) 1 (2 ∷ 5 ∷ [])
     ∷ totals ByLoad 3 2 shift 3 8
     -- an empty trace
-    ∷ reports (traceBytes 3 2 []) (record { refusal = 0; k = 3; a = 2; requests = 0; min = counts 0 0; lru = counts 0 0; fifo = counts 0 0; layers = layersCounts 0 0 0 })
+    ∷ reports (traceBytes 3 2 []) (record { refusal = 0; k = 3; a = 2; requests = 0; min = counts 0 0; lru = counts 0 0; fifo = counts 0 0; mark = counts 0 0; layers = layersCounts 0 0 0 })
     -- k 3, a 1, pages 1 2 3 1 4 1 tell the two apart: a hit moves no page
     ∷ evicts ByRequest 3 1 (1 ∷ 2 ∷ 3 ∷ 1 ∷ []) 4 (2 ∷ [])
     ∷ evicts ByLoad 3 1 (1 ∷ 2 ∷ 3 ∷ 1 ∷ []) 4 (1 ∷ [])
@@ -266,9 +267,9 @@ requestedCases =
     ∷ replies (record { k = 2; a = 1; requests = 1; evictions = 0; s = 1; appends = 0; joins = 1; lifts = 0 }) (1 ∷ []) (1 ∷ []) 1 (9 ∷ replicate 9 0)
     -- 03. k 2, a 1, pages 1 1 1 2 2 3 1, in runs and one by one: request numbers count single requests
     ∷ reports (traceBytes 2 1 (rr 1 3 ∷ rr 2 2 ∷ rq 3 ∷ rr 1 1 ∷ []))
-    (record { refusal = 0; k = 2; a = 1; requests = 7; min = counts 1 3; lru = counts 2 4; fifo = counts 2 4; layers = layersCounts 1 2 2 })
+    (record { refusal = 0; k = 2; a = 1; requests = 7; min = counts 1 3; lru = counts 2 4; fifo = counts 2 4; mark = counts 2 4; layers = layersCounts 1 2 2 })
     ∷ reports (traceBytes 2 1 (singles (1 ∷ 1 ∷ 1 ∷ 2 ∷ 2 ∷ 3 ∷ 1 ∷ [])))
-    (record { refusal = 0; k = 2; a = 1; requests = 7; min = counts 1 3; lru = counts 2 4; fifo = counts 2 4; layers = layersCounts 1 2 2 })
+    (record { refusal = 0; k = 2; a = 1; requests = 7; min = counts 1 3; lru = counts 2 4; fifo = counts 2 4; mark = counts 2 4; layers = layersCounts 1 2 2 })
     -- a run of no request is 13; the run that passes 4,096 requests is 3, whatever follows it, but one of none right behind them is 13
     ∷ reports (traceBytes 3 2 (rq 5 ∷ rr 5 0 ∷ [])) (refusedReport 13)
     ∷ reports (traceBytes 3 2 (rr 5 4095 ∷ rr 5 2 ∷ rr 5 0 ∷ [])) (refusedReport 3)

@@ -87,11 +87,12 @@ pub record Compares (k a : ℕ) : Type 0 where
   pub judge-answers-the-best-count : (trace out file : List ℕ) → scheduleRefusal k a trace out ≡ 0 → TraceFileOf k a trace file
       → answerNumber (judged file (scheduleWritten k a trace out)) ≡ pos (bestCount k a trace)
 
--- of a report: LRU's and oldest load's bundles are at most k/a, rounded up, times those that the layers count
+-- of a report: LRU's, oldest load's and marking's bundles are at most k/a, rounded up, times those that the layers count
 abbrev pub WithinFactor : Report → Type 0
 WithinFactor r =
     (r .lru .bundles ≤ ceilDiv (r .k) (r .a) * r .layers .bundles)
     × (r .fifo .bundles ≤ ceilDiv (r .k) (r .a) * r .layers .bundles)
+    × (r .mark .bundles ≤ ceilDiv (r .k) (r .a) * r .layers .bundles)
 
 -- the whole demand: the comparisons for every k from 1 to 256 and a from 1 to k, the judge on any two files, and the bench on any input
 pub record Demand3 : Type 0 where
@@ -103,6 +104,6 @@ pub record Demand3 : Type 0 where
   -- and one below zero is a refusal's, from 1 to 7 or 13 (document 02, request 03), made negative
   pub judge-refuses-by-number : (trace schedule : List ℕ) (number : ℕ) → judged trace schedule ≡ refused number
       → (1 ≤ number) × ((number ≤ 7) ⊎ (number ≡ 13))
-  -- what a depot reads off the bench (document 02, request 01): of every report the lines `lru` and `fifo` are within the factor of the line `layers`. Of a
+  -- what a depot reads off the bench (document 02, requests 01 and 09): of every report the lines `lru`, `fifo` and `mark` are within the factor of the line `layers`. Of a
   -- refused one all are zero
   pub reports-stay-within-the-factor : (input : List ℕ) → WithinFactor (reportOf input)

@@ -10,6 +10,8 @@ use Rattle.min.specs.declared.Scheduled.{Scheduled}
 use Rattle.layers.specs.declared.LayersReply.{LayersReply}
 use Rattle.layers.specs.declared.RevealedReply.{RevealedReply}
 use Rattle.layers.specs.declared.LayersTotals.{LayersTotals}
+use Rattle.mark.specs.declared.MarkReply.{MarkReply}
+use Rattle.mark.specs.declared.MarkTotals.{MarkTotals}
 
 abbrev pub queueReplyFields : Reply → List ℕ
 queueReplyFields r =
@@ -40,3 +42,13 @@ revealedFields r = r .refusal ∷ r .count ∷ []
 
 abbrev pub layersTotalsFields : LayersTotals → List ℕ
 layersTotalsFields r = r .refusal ∷ r .bundles ∷ r .s ∷ r .revealed ∷ []
+
+-- the record of marking, then the layers' record in it
+abbrev pub markReplyFields : MarkReply → List ℕ
+markReplyFields r =
+    r .refusal ∷ r .run .k ∷ r .run .a ∷ r .run .requests ∷ r .run .loads ∷ r .run .evictions ∷ r .run .t
+    ∷ r .run .layers .k ∷ r .run .layers .a ∷ r .run .layers .requests ∷ r .run .layers .evictions ∷ r .run .layers .s
+    ∷ r .run .layers .appends ∷ r .run .layers .joins ∷ r .run .layers .lifts ∷ r .count ∷ r .answer ∷ []
+
+abbrev pub markTotalsFields : MarkTotals → List ℕ
+markTotalsFields r = r .refusal ∷ r .bundles ∷ r .loads ∷ []

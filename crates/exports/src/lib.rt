@@ -9,6 +9,7 @@
 //   queue_fields  the fields of their answers
 //   min_calls     farthest next use, its counts and its schedule
 //   layers_calls  the layers, a request, the questions and a trace
+//   mark_calls    marking with priorities RDM beside the layers, a request and a trace
 //   reader_calls  what stands at an offset of a file
 //   trace_calls   a trace file read whole
 //   edition_calls a trace file turned into the old or the new edition
@@ -17,6 +18,7 @@ mod edition_calls;
 mod fifo_calls;
 mod layers_calls;
 mod lru_calls;
+mod mark_calls;
 mod min_calls;
 mod preview_calls;
 mod queue_fields;

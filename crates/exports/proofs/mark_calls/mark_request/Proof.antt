@@ -1,0 +1,32 @@
+-- `mark_request` meets its contract: the fields of the answer are stored, and lent lists are as the call leaves them.
+use Rattle.exports.proofs.Stored.{stored}
+use Rattle.exports.specs.Fields.{markReplyFields}
+use borrow.Author.Needs.{needs}
+use Rattle.exports.proofs.mark_calls.mark_request.Statement.{statement}
+use Rattle.exports.proofs.mark_calls.mark_request.Tie as tie
+
+returns : tie.Need-returns
+returns c =
+    let start = c .before .before .before .before .before .before .before .before .before .before .before .before .before .before .before .before .before .before .before .before .before .before .before .before .before .before .before .before .before .before .before .before .before .before .before .before in
+    let call = c .before .before .before .before .before .before .before .before .before .before .before .before .before .before .before .before .before .before .before .before .request in (
+      stored markReplyFields (start .args .out .now) (c .before .before .fields .ensures) (c .before .before .before .before .before .reply-fields .ensures) (call .ensures .0),
+      call .ensures .1,
+    )
+
+pub mark-request-spec : {M : Type 1} → statement M
+mark-request-spec =
+    tie.close
+    (tie.spec
+    (λ c κs. search needs)
+    (λ c κs. search needs)
+    (λ c. search needs)
+    (λ c κs. search needs)
+    (λ c. search needs)
+    (λ c. search needs)
+    (λ c. search needs)
+    (λ c. search needs)
+    (λ c. search needs)
+    (λ c. search needs)
+    (λ c. search needs)
+    (λ c. search needs)
+    returns)
