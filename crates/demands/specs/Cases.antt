@@ -323,7 +323,8 @@ requestedCases =
     ∷ markEvicts (markedAfter 3 2 8 (take 3 shift)) 4 (1 ∷ 2 ∷ [])
     ∷ markEvicts (markedAfter 3 2 8 (take 5 shift)) 5 (3 ∷ 4 ∷ [])
     ∷ markEvicts (markedAfter 3 2 8 (take 7 shift)) 1 (2 ∷ 5 ∷ [])
-    ∷ markKeeps 3 2 8 shift (1 ∷ 6 ∷ 0 ∷ []) (1 ∷ 1 ∷ 0 ∷ []) (64 ∷ 56 ∷ 0 ∷ []) (2 ∷ 4 ∷ 5 ∷ 6 ∷ 1 ∷ 0 ∷ 0 ∷ 0 ∷ []) (2 ∷ 4 ∷ 6 ∷ 7 ∷ 8 ∷ 0 ∷ 0 ∷ 0 ∷ [])
+    ∷ markKeeps 3 2 8 shift (1 ∷ 6 ∷ 0 ∷ []) (1 ∷ 1 ∷ 0 ∷ []) (64 ∷ 56 ∷ 0 ∷ [])
+    (2 ∷ 4 ∷ 5 ∷ 6 ∷ 1 ∷ 0 ∷ 0 ∷ 0 ∷ []) (2 ∷ 4 ∷ 6 ∷ 7 ∷ 8 ∷ 0 ∷ 0 ∷ 0 ∷ [])
     -- k 3, a 2, pages 1 2 3 1 2 4 1: 1 and 2 are revealed when they come again, so t stays 3, and they get 26 and 25 against 24 of page 3. LRU takes 3 and 1
     ∷ markEvicts (markedAfter 3 2 4 (1 ∷ 2 ∷ 3 ∷ 1 ∷ 2 ∷ [])) 4 (3 ∷ 2 ∷ [])
     ∷ evicts ByRequest 3 2 (1 ∷ 2 ∷ 3 ∷ 1 ∷ 2 ∷ []) 4 (3 ∷ 1 ∷ [])

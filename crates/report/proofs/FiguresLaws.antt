@@ -52,7 +52,8 @@ module _ (k a : ℕ) (trace : List ℕ) (right : SizesRight k a) (short : length
   marks-take = trace-marked k a trace 4096 right (omega arith) short
 
   pub figures-told : (m : Counts) (l f : Totals) (n : MarkTotals) (y : LayersTotals)
-      → m ≡ countsOf k a trace → l ≡ totalsOf ByRequest k a trace → f ≡ totalsOf ByLoad k a trace → n ≡ markTotals.totalsOf k a trace blankTable → y ≡ traceTotals k a trace blank blank
+      → m ≡ countsOf k a trace → l ≡ totalsOf ByRequest k a trace → f ≡ totalsOf ByLoad k a trace
+      → n ≡ markTotals.totalsOf k a trace blankTable → y ≡ traceTotals k a trace blank blank
       → record {
         refusal = 0;
         k = k;

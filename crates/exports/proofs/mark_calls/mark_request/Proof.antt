@@ -7,7 +7,8 @@ use Rattle.exports.proofs.mark_calls.mark_request.Tie as tie
 
 returns : tie.Need-returns
 returns c =
-    let start = c .before .before .before .before .before .before .before .before .before .before .before .before .before .before .before .before .before .before .before .before .before .before .before .before .before .before .before .before .before .before .before .before .before .before .before .before in
+    let start = c .before .before .before .before .before .before .before .before .before .before .before .before .before .before .before .before .before .before
+    .before .before .before .before .before .before .before .before .before .before .before .before .before .before .before .before .before .before in
     let call = c .before .before .before .before .before .before .before .before .before .before .before .before .before .before .before .before .before .before .before .before .request in (
       stored markReplyFields (start .args .out .now) (c .before .before .fields .ensures) (c .before .before .before .before .before .reply-fields .ensures) (call .ensures .0),
       call .ensures .1,
