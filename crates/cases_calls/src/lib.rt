@@ -1,9 +1,11 @@
 // The calls on pages of documents 01 and 02, made with the numbers and lists of a row; each prints its answer.
 //   traces      whole traces
 //   requests    single requests and questions
+//   marking     marking with priorities RDM
 use cases_rows::row::Numbers;
 use cases_rows::show;
 
+mod marking;
 mod requests;
 mod traces;
 
@@ -34,6 +36,10 @@ const REVEALED: u16 = b'r' as u16 + 256 * b'e' as u16;
 
 const POSSIBLE: u16 = b'p' as u16 + 256 * b'o' as u16;
 
+const MARK: u16 = b'm' as u16 + 256 * b'a' as u16;
+
+const RDM: u16 = b'r' as u16 + 256 * b'd' as u16;
+
 const FIRST: u16 = b'f' as u16 + 256 * b'i' as u16;
 
 const SECOND: u16 = b's' as u16 + 256 * b'e' as u16;
@@ -60,6 +66,8 @@ pub fn answer(
         TABLE => requests::table(n, first, second),
         REVEALED => requests::revealed(n, first, second),
         POSSIBLE => requests::possible(n, first, second, third),
+        MARK => marking::request(n, first, second),
+        RDM => marking::over_trace(n, first, second),
         FIRST => show::list(first),
         SECOND => show::list(second),
         _ => return false,

@@ -4,14 +4,13 @@ use mathlib.Core.Bool.{Bool, true}
 use mathlib.Core.List.{List, [], _∷_, _++_}
 use mathlib.Core.Path.{_≡_, refl}
 use lib.Dec.{eqb}
-use lib.ListN.{take}
 use Rattle.lists.specs.Choice.{_and_, _or_, pick}
 use Rattle.lists.specs.Sorting.{rowBefore}
 use Rattle.paging.specs.Policy.{isBundled}
 use Rattle.paging.specs.Rows.{pagesOf}
 use Rattle.paging.specs.Same.{samePages, every, shift}
-use Rattle.marking.specs.Marking.{Cached, pagesIn, marksIn, prioritiesIn, sooner, cleared, markBundle, markKind, markBundles, markLoads, markHolds}
-use Rattle.marking.specs.Rdm.{Marking, noMarking, noClock, joinsNext, priorityNext, markingNext, markingAfter, clockAfter, rdm}
+use Rattle.marking.specs.Marking.{pagesIn, marksIn, prioritiesIn, sooner, cleared, markBundle, markKind, markBundles, markLoads}
+use Rattle.marking.specs.Rdm.{Marking, noMarking, joinsNext, priorityNext, markingNext, markingAfter, rdm}
 
 -- the priority of each request, and the pages that leave, bundle behind bundle
 priorities : (k a : ℕ) → List ℕ → Marking → List ℕ
