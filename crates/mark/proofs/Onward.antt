@@ -28,11 +28,7 @@ use Rattle.marked.proofs.Kept.{laid-back, served-ready}
 use Rattle.mark.specs.Lent.{Lent, rowsIn, heldIn, timesOf, evictedServed, lentServed}
 use Rattle.mark.specs.declared.serving.Point.{Point}
 use Rattle.mark.specs.inner.Stepping.{StepReady, heldAt, pointAfter}
-use Rattle.mark.proofs.Tables.{used-pages}
-
-numbers-length : (rows : List Row) → length (numbersOf rows) ≡ length rows
-numbers-length [] = refl
-numbers-length (x ∷ xs) = ap suc (numbers-length xs)
+use Rattle.mark.proofs.Tables.{numbers-length}
 
 length-table : (places : ℕ) (rows : List Row) → length rows ≤ places → length (tableOf places rows) ≡ places
 length-table places rows h = simp (length-append, length-replicate) (omega arith)

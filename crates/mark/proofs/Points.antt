@@ -3,10 +3,12 @@ use Prim.Native.Nat.{ℕ, _+_, _-_, _≤_, _<_}
 use native.Mathlib.Omega.{arith}
 use mathlib.Core.Bool.{Bool, true, false}
 use mathlib.Core.Path.{_≡_, refl, sym, _∙_}
-use lib.Dec.{leb, ltb}
+use lib.Dec.{eqb, leb, ltb}
 use borrow.Author.Tests.{lt-ltb, le-ltb}
 use Rattle.lists.specs.Choice.{_and_}
-use Rattle.lists.proofs.Choice.{tests, cases, same-test, and-false-r}
+use Rattle.lists.specs.Pages.{bit}
+use Rattle.lists.proofs.Choice.{tests, cases, and-false-r}
+use Rattle.paging.specs.Policy.{Kind, hit, load, bundled, kindNumber, isLoad, isBundled}
 
 pub revealed-at : (at used shown : ℕ) → at < used → leb (used - at) shown ≡ leb (used - shown) at and ltb at used
 unfolding _and_
@@ -17,3 +19,15 @@ revealed-at at used shown h =
 
 pub revealed-past : (at used shown : ℕ) → used ≤ at → false ≡ leb (used - shown) at and ltb at used
 revealed-past at used shown h = sym (and-false-r _ _ (le-ltb at used h))
+
+-- the loads and bundles of a kind, by the number that a request answers
+
+pub load-number : (kind : Kind) → bit (ltb 0 (kindNumber kind)) ≡ bit (isLoad kind)
+load-number hit = refl
+load-number load = refl
+load-number bundled = refl
+
+pub bundle-number : (kind : Kind) → bit (eqb (kindNumber kind) 2) ≡ bit (isBundled kind)
+bundle-number hit = refl
+bundle-number load = refl
+bundle-number bundled = refl

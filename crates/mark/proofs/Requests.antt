@@ -11,7 +11,7 @@ use Rattle.lists.specs.Choice.{pick}
 use Rattle.lists.specs.Pages.{bit}
 use Rattle.lists.specs.Places.{place}
 use Rattle.paging.specs.Layers.{topAfter}
-use Rattle.paging.specs.Policy.{Kind, hit, load, bundled, kindNumber, isLoad, isBundled}
+use Rattle.paging.specs.Policy.{kindNumber, isLoad, isBundled}
 use Rattle.paging.specs.Refusals.{refuse}
 use Rattle.paging.specs.Rows.{rowsOf, usedRows, tableOf}
 use Rattle.paging.specs.Table.{ruleIn, revealed}
@@ -35,6 +35,7 @@ use Rattle.mark.specs.declared.MarkRun.{MarkRun}
 use Rattle.mark.specs.declared.serving.Point.{Point}
 use Rattle.mark.specs.declared.serving.Stepped.{Stepped}
 use Rattle.mark.specs.inner.Stepping.{StepReady, heldAt, pointAfter, SteppedTo, AnswerReady, answeredBy}
+use Rattle.mark.proofs.Points.{load-number, bundle-number}
 use Rattle.mark.proofs.Refusals.{Ready, ready, passes, state-chain}
 use Rattle.mark.proofs.Tables.{first-unused, used-fit, times-low, times-blank}
 
@@ -120,16 +121,6 @@ module _ (run : MarkRun) (count : ℕ) (x : Lent) (p : ℕ) where
     pub full-left : r .full ≡ true → left ≡ x
     full-left f = told .lists-told ∙ rw f refl
 
-    kind-load : (kind : Kind) → bit (ltb 0 (kindNumber kind)) ≡ bit (isLoad kind)
-    kind-load hit = refl
-    kind-load load = refl
-    kind-load bundled = refl
-
-    kind-bundled : (kind : Kind) → bit (eqb (kindNumber kind) 2) ≡ bit (isBundled kind)
-    kind-bundled hit = refl
-    kind-bundled load = refl
-    kind-bundled bundled = refl
-
     pub served-answer : (reply : MarkReply) → r .full ≡ false → reply ≡ answeredBy run r → Answered run count x p reply left
     unfolding replyOf lentAfter
     served-answer reply f e =
@@ -142,7 +133,7 @@ module _ (run : MarkRun) (count : ℕ) (x : Lent) (p : ℕ) where
         let layers-k : run .layers .k ≡ run .k = R .recorded .one-k in
         let layers-a : run .layers .a ≡ run .a = R .recorded .one-a in
         let same : answeredBy run r ≡ replyServed run count x p =
-        rw (after′, answer, rule, kind-load (markKind (run .k) p (holding run count x .cached)), kind-bundled (markKind (run .k) p (holding run count x .cached)), layers-k, layers-a) refl in
+        rw (after′, answer, rule, load-number (markKind (run .k) p (holding run count x .cached)), bundle-number (markKind (run .k) p (holding run count x .cached)), layers-k, layers-a) refl in
         (e ∙ same ∙ rw (eq-eqb _ 0 z) refl, told .lists-told ∙ rw (f, eq-eqb _ 0 z, same-s, same-t, same-count) refl)
 
 -- As the code finds it

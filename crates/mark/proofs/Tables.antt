@@ -16,17 +16,13 @@ use Rattle.lists.proofs.Choice.{tests, cases, split, clash, same-test, and-l, a
 use Rattle.lists.proofs.Pages.{count-ext, once-distinct}
 use Rattle.paging.specs.Rows.{rowsOf, numbersOf, pagesOf, rowAt, unused, usedRows, tableOf}
 use Rattle.paging.specs.Table.{aboveZero, numberIn, sizeOf}
-use Rattle.paging.proofs.Rows.{rows-length, pages-back, numbers-back}
+use Rattle.paging.proofs.Rows.{rows-length, pages-length, pages-back, numbers-back}
 use Rattle.marking.specs.Rdm.{beside, t0After, timesAfter}
 use Rattle.mark.specs.Formed.{timesFormed}
 
-pub pages-append : (xs ys : List Row) → pagesOf (xs ++ ys) ≡ pagesOf xs ++ pagesOf ys
+pages-append : (xs ys : List Row) → pagesOf (xs ++ ys) ≡ pagesOf xs ++ pagesOf ys
 pages-append [] ys = refl
 pages-append (x ∷ xs) ys = ap (λ rest. x .page ∷ rest) (pages-append xs ys)
-
-pub pages-length : (rows : List Row) → length (pagesOf rows) ≡ length rows
-pages-length [] = refl
-pages-length (x ∷ xs) = ap suc (pages-length xs)
 
 count-pages : (f : ℕ → Bool) (rows : List Row) → count f (pagesOf rows) ≡ count (λ row. f (row .page)) rows
 count-pages f [] = refl
@@ -137,7 +133,7 @@ numbers-append : (xs ys : List Row) → numbersOf (xs ++ ys) ≡ numbersOf xs ++
 numbers-append [] ys = refl
 numbers-append (x ∷ xs) ys = ap (λ rest. x .number ∷ rest) (numbers-append xs ys)
 
-numbers-length : (rows : List Row) → length (numbersOf rows) ≡ length rows
+pub numbers-length : (rows : List Row) → length (numbersOf rows) ≡ length rows
 numbers-length [] = refl
 numbers-length (x ∷ xs) = ap suc (numbers-length xs)
 

@@ -13,7 +13,7 @@ use Rattle.lists.specs.Choice.{pick, _or_}
 use Rattle.lists.specs.Pages.{bit}
 use Rattle.lists.specs.Sorting.{Row}
 use Rattle.lists.proofs.Choice.{cases, clash, bit-le, or-l}
-use Rattle.paging.specs.Policy.{Kind, hit, load, bundled, kindNumber, isLoad, isBundled}
+use Rattle.paging.specs.Policy.{kindNumber, isLoad, isBundled}
 use Rattle.paging.specs.Refusals.{SizesRight}
 use Rattle.paging.specs.Rows.{rowsOf, numbersOf, pagesOf, unused, usedRows, tableOf}
 use Rattle.paging.specs.Table.{rowsAfter, Tabled, nothingYet, tabledNext, tabledAfter}
@@ -30,6 +30,7 @@ use Rattle.mark.specs.declared.serving.Point.{Point}
 use Rattle.mark.specs.declared.serving.Stepped.{Stepped}
 use Rattle.mark.specs.inner.Over.{TraceReady, ServedOver}
 use Rattle.mark.specs.inner.Stepping.{StepReady, heldAt, pointAfter, SteppedTo}
+use Rattle.mark.proofs.Points.{load-number, bundle-number}
 use Rattle.mark.proofs.Onward.{held-served, ready-served, pages-places}
 
 pub record SoFar (k a : ℕ) (trace : List ℕ) (places i bundles loads : ℕ) (at : Point) (x : Lent) : Type 0 where
@@ -47,16 +48,6 @@ pub record SoFar (k a : ℕ) (trace : List ℕ) (places i bundles loads : ℕ) (
 or-pass : (b c : Bool) → b ≡ false → (b or c) ≡ c
 unfolding _or_
 or-pass b c e = rw e refl
-
-load-of : (kind : Kind) → bit (ltb 0 (kindNumber kind)) ≡ bit (isLoad kind)
-load-of hit = refl
-load-of load = refl
-load-of bundled = refl
-
-bundle-of : (kind : Kind) → bit (eqb (kindNumber kind) 2) ≡ bit (isBundled kind)
-bundle-of hit = refl
-bundle-of load = refl
-bundle-of bundled = refl
 
 module _ (k a : ℕ) (trace : List ℕ) (places i bundles loads : ℕ) (at : Point) (x : Lent) (Y : SoFar k a trace places i bundles loads at x) where
   -- The counters
@@ -156,13 +147,13 @@ module _ (k a : ℕ) (trace : List ℕ) (places i bundles loads : ℕ) (at : Poi
       bundles-next : bundles + b ≡ markBundles (rdm k a) k a (take (i + 1) trace)
       bundles-next =
           let one : b ≡ bit (isBundled (markKind k (getD trace i 0) (markingAfter k a (take i trace) noMarking .cached))) =
-          b-is ∙ rw (answer-is, bundle-of (markKind k (getD trace i 0) (heldAt at x .cached)), cached-is) refl in
+          b-is ∙ rw (answer-is, bundle-number (markKind k (getD trace i 0) (heldAt at x .cached)), cached-is) refl in
           rw (Y .bundles-are, one, add-one i, take-suc trace i 0 h) (sym (bundles-snoc k a (take i trace) (getD trace i 0)))
 
       loads-next : loads + l ≡ markLoads (rdm k a) k a (take (i + 1) trace)
       loads-next =
           let one : l ≡ bit (isLoad (markKind k (getD trace i 0) (markingAfter k a (take i trace) noMarking .cached))) =
-          l-is ∙ rw (answer-is, load-of (markKind k (getD trace i 0) (heldAt at x .cached)), cached-is) refl in
+          l-is ∙ rw (answer-is, load-number (markKind k (getD trace i 0) (heldAt at x .cached)), cached-is) refl in
           rw (Y .loads-are, one, add-one i, take-suc trace i 0 h) (sym (loads-snoc k a (take i trace) (getD trace i 0)))
 
       pub tracing-next : SoFar k a trace places (i + 1) (bundles + b) (loads + l) (r .after) left
