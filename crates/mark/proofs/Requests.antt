@@ -26,7 +26,7 @@ use Rattle.layers.proofs.Refusing.{counters-fit}
 use Rattle.layers.proofs.WellFormed.{facts, well-table, ordered-shape}
 use Rattle.marking.specs.Marking.{markKind}
 use Rattle.marking.specs.Rdm.{joinsNext, priorityNext, markingNext}
-use Rattle.marked.proofs.Cached.{length-cached}
+use Rattle.leaving.proofs.Cached.{length-cached}
 use Rattle.marked.proofs.Kept.{served-most}
 use Rattle.mark.specs.Calls.{holding, held, stateRefusal, requestRefusal, runServed, replyServed, refused, replyOf, lentAfter, Answered}
 use Rattle.mark.specs.Lent.{Lent, rowsIn, lentServed}

@@ -18,9 +18,11 @@ use Rattle.lists.proofs.Pages.{count-append, count-not, mem-here, mem-there}
 use Rattle.lists.proofs.Sorting.{length-insert, length-sort, count-sort}
 use Rattle.marking.specs.Marking.{Cached, cachedAt, pagesIn, marksIn, prioritiesIn, sooner, byPage, cleared, markBundle, spared, markServed}
 use Rattle.marking.specs.Lists.{cachedIn, rising, allMarks}
+use Rattle.leaving.proofs.Cached.{cached-back, pages-in, length-cached}
+use Rattle.leaving.proofs.Taken.{length-filter}
 use Rattle.marked.specs.Buffer.{BufferReady, ServedTo}
 use Rattle.marked.specs.declared.Served.{Served}
-use Rattle.marked.proofs.Cached.{cached-back, pages-cleared, pages-in, length-cached}
+use Rattle.marked.proofs.Cached.{pages-cleared}
 use Rattle.marked.proofs.Requests.{hit-pages, ready-roomy}
 use Rattle.marked.proofs.Rising.{rising-distinct, rising-filter, rising-insert, mem-filter}
 
@@ -102,10 +104,6 @@ served-marks k a clear p n xs e =
 length-cleared : (clear : Bool) (xs : List Cached) → length (cleared clear xs) ≡ length xs
 length-cleared false xs = refl
 length-cleared true xs = length-map xs (λ x. cachedAt (x .page) 0 (x .priority))
-
-length-filter : (f : Cached → Bool) (xs : List Cached) → length (filter f xs) ≡ count f xs
-length-filter f [] = refl
-length-filter f (x ∷ xs) = cases (f x) (λ e. rw e (omega (arith, length-filter f xs))) (λ e. rw e (omega (arith, length-filter f xs)))
 
 count-pages : (f : ℕ → Bool) (ys : List Cached) → ((q : ℕ) → mem q (pagesIn ys) ≡ true → f q ≡ true) → count (λ y. f (y .page)) ys ≡ length ys
 count-pages f [] e = refl

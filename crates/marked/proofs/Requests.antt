@@ -19,9 +19,10 @@ use Rattle.paging.specs.Policy.{Kind, hit, load, bundled, kindNumber, isBundled
 use Rattle.marking.specs.Marking.{Cached, cachedAt, pagesIn, marksIn, prioritiesIn, byPage, cleared, markBundle, spared, markedBy, markKind, markServed}
 use Rattle.marking.specs.Lists.{cachedIn, rising}
 use Rattle.marked.specs.Buffer.{BufferReady, ServedTo}
-use Rattle.marked.specs.Inner.{wiped, Roomy, LeftWith, BundleReady, BundleLeft, LoadReady}
-use Rattle.marked.proofs.Cached.{pages-in, marks-in, priorities-in, length-cached, cached-cleared}
-use Rattle.marked.proofs.Cached.{behind-on, fronted-on, set-fronted, kept-fronted, wiped-laid, cached-left}
+use Rattle.leaving.specs.Buffer.{Roomy, LeftWith, BundleReady, BundleLeft}
+use Rattle.leaving.proofs.Cached.{pages-in, marks-in, priorities-in, length-cached, behind-on, fronted-on, set-fronted, kept-fronted, cached-left}
+use Rattle.marked.specs.Inner.{wiped, LoadReady}
+use Rattle.marked.proofs.Cached.{cached-cleared, wiped-laid}
 use Rattle.marked.proofs.Rising.{rising-distinct, rising-filter}
 
 -- A hit in the three lists
@@ -145,7 +146,9 @@ module _ {k a n : ℕ} {cache marks priorities evicted : List ℕ} (A : BufferRe
     pub bundle-ready : k ≤ n → BundleReady a n cache (y ++ drop n marks) priorities evicted
     bundle-ready g =
         let h = A .a-high in
-        record { room = now-roomy; enough = omega arith; evicted-room = A .evicted-room; once = rising-distinct (take n cache) (A .rises) }
+        let l = A .count-most in
+        let f = A .k-high in
+        record { room = now-roomy; enough = omega arith; most = omega arith; evicted-room = A .evicted-room; once = rising-distinct (take n cache) (A .rises) }
 
     pub rest-ready : {c₁ m₁ q₁ e₁ : List ℕ} → k ≤ n → BundleLeft a n cache (y ++ drop n marks) priorities evicted c₁ m₁ q₁ e₁
         → length c₁ ≡ length cache → length m₁ ≡ length (y ++ drop n marks) → length q₁ ≡ length priorities → LoadReady (n - a) c₁ m₁ q₁

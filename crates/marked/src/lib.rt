@@ -6,9 +6,9 @@ ghost use lib.ListN.{length, replicate};
 ghost use Rattle.lists.specs.Choice.{pick};
 ghost use Rattle.marking.specs.Lists.{rising, allMarks};
 ghost use Rattle.marked.specs.Buffer.{BufferReady, ServedTo};
-ghost use Rattle.marked.specs.Inner.{Roomy, wiped};
+ghost use Rattle.leaving.specs.Buffer.{Roomy};
+ghost use Rattle.marked.specs.Inner.{wiped};
 
-mod leaving;
 mod loading;
 mod places;
 

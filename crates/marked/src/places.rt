@@ -2,7 +2,6 @@
 ghost use Prim.Native.Nat.{_<_};
 ghost use mathlib.Core.Path.{_≡_};
 ghost use lib.ListN.{length, replicate};
-ghost use Rattle.lists.specs.Places.{movedToEnd};
 ghost use Rattle.marked.specs.Inner.{inserted};
 
 // Puts the value in at the place. Each entry from there on moves up a place, and the last is gone.
@@ -28,21 +27,6 @@ pub(crate) fn insert_wide(list: &mut [u64], at: usize, value: u64)
         j -= 1;
     }
     list[at] = value;
-}
-
-// The entry at the place goes to the end of the list, and each later one moves down a place.
-pub(crate) fn to_end_wide(list: &mut [u64], at: usize)
-    requires { ⌜ at < length (now list) ⌝ }
-    ensures { λ _. ⌜ now (list .exit) ≡ movedToEnd at (now (list .entry)) ⌝ }
-{
-    let n = list.len();
-    let value = list[at];
-    let mut i = at;
-    while i < n - 1 {
-        list[i] = list[i + 1];
-        i += 1;
-    }
-    list[n - 1] = value;
 }
 
 // Zero in every place.
