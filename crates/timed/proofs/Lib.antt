@@ -2,3 +2,4 @@ mod Follow
 mod JoiningLaws
 mod Rising
 mod LiftingLaws
+mod Together

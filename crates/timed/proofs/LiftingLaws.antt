@@ -56,36 +56,36 @@ made-last at used l y h g e =
 pub less-fits : (i n : ℕ) → 0 < i → boolByte (leb i n) ≤ n
 less-fits i n h = cases (leb i n) (λ e. rw e (omega tests)) (λ e. rw e (omega arith))
 
-pub record Lowering (i : ℕ) (ns₀ ns : List ℕ) (j : ℕ) : Type 0 where
+pub record Lowering (g : ℕ → ℕ) (ns₀ ns : List ℕ) (j : ℕ) : Type 0 where
   pub long : length ns ≡ length ns₀
-  pub shape : ns ≡ map (lessFrom i) (take j ns₀) ++ drop j ns₀
+  pub shape : ns ≡ map g (take j ns₀) ++ drop j ns₀
 
-pub lowering-start : (i : ℕ) (ns : List ℕ) → Lowering i ns ns 0
-lowering-start i ns = record { long = refl; shape = refl }
+pub lowering-start : (g : ℕ → ℕ) (ns : List ℕ) → Lowering g ns ns 0
+lowering-start g ns = record { long = refl; shape = refl }
 
-module _ (i : ℕ) (ns₀ ns : List ℕ) (j : ℕ) (h : j < length ns₀) (L : Lowering i ns₀ ns j) where
-  lowered-front : length (map (lessFrom i) (take j ns₀)) ≡ j
-  lowered-front = length-map (take j ns₀) (lessFrom i) ∙ length-take-le j ns₀ (omega arith)
+module _ (g : ℕ → ℕ) (ns₀ ns : List ℕ) (j : ℕ) (h : j < length ns₀) (L : Lowering g ns₀ ns j) where
+  lowered-front : length (map g (take j ns₀)) ≡ j
+  lowered-front = length-map (take j ns₀) g ∙ length-take-le j ns₀ (omega arith)
 
-  pub lowering-reads : getD ns j 0 ≡ getD ns₀ j 0
-  lowering-reads = rw (L .shape, drop-cons ns₀ j 0 h) (getD-at (map (lessFrom i) (take j ns₀)) (getD ns₀ j 0) (drop (suc j) ns₀) 0 j lowered-front)
+  lowering-reads : getD ns j 0 ≡ getD ns₀ j 0
+  lowering-reads = rw (L .shape, drop-cons ns₀ j 0 h) (getD-at (map g (take j ns₀)) (getD ns₀ j 0) (drop (suc j) ns₀) 0 j lowered-front)
 
-  pub lowering-next : Lowering i ns₀ (set ns j (getD ns j 0 - boolByte (leb i (getD ns j 0)))) (j + 1)
-  lowering-next =
-      let v : getD ns j 0 - boolByte (leb i (getD ns j 0)) ≡ lessFrom i (getD ns₀ j 0) = rw lowering-reads (one (getD ns₀ j 0)) in
-      let stored : set ns j (lessFrom i (getD ns₀ j 0)) ≡ map (lessFrom i) (take j ns₀) ++ (lessFrom i (getD ns₀ j 0) ∷ drop (suc j) ns₀) =
-      rw (L .shape, drop-cons ns₀ j 0 h) (set-at (map (lessFrom i) (take j ns₀)) (getD ns₀ j 0) (drop (suc j) ns₀) (lessFrom i (getD ns₀ j 0)) j lowered-front) in
-      let shape : set ns j (lessFrom i (getD ns₀ j 0)) ≡ map (lessFrom i) (take (j + 1) ns₀) ++ drop (j + 1) ns₀ =
+  pub lowering-next : (v : ℕ) → v ≡ g (getD ns j 0) → Lowering g ns₀ (set ns j v) (j + 1)
+  lowering-next v told =
+      let is : v ≡ g (getD ns₀ j 0) = rw lowering-reads at told in
+      let stored : set ns j (g (getD ns₀ j 0)) ≡ map g (take j ns₀) ++ (g (getD ns₀ j 0) ∷ drop (suc j) ns₀) =
+      rw (L .shape, drop-cons ns₀ j 0 h) (set-at (map g (take j ns₀)) (getD ns₀ j 0) (drop (suc j) ns₀) (g (getD ns₀ j 0)) j lowered-front) in
+      let shape : set ns j (g (getD ns₀ j 0)) ≡ map g (take (j + 1) ns₀) ++ drop (j + 1) ns₀ =
       stored
-      ∙ rw (add-one j, take-suc ns₀ j 0 h, map-snoc (lessFrom i) (take j ns₀) (getD ns₀ j 0))
-      (sym (append-assoc (map (lessFrom i) (take j ns₀)) (lessFrom i (getD ns₀ j 0) ∷ []) (drop (suc j) ns₀))) in
-      record { long = length-set ns j _ ∙ L .long; shape = rw v shape }
-    where
-      one : (n : ℕ) → n - boolByte (leb i n) ≡ lessFrom i n
-      one n = cases (leb i n) (λ e. rw e) (λ e. rw e (omega arith))
+      ∙ rw (add-one j, take-suc ns₀ j 0 h, map-snoc g (take j ns₀) (getD ns₀ j 0))
+      (sym (append-assoc (map g (take j ns₀)) (g (getD ns₀ j 0) ∷ []) (drop (suc j) ns₀))) in
+      record { long = length-set ns j _ ∙ L .long; shape = rw is shape }
 
-pub lowering-end : (i : ℕ) (ns₀ ns : List ℕ) (j end : ℕ) → end ≤ j → j ≤ end → Lowering i ns₀ ns j → ns ≡ map (lessFrom i) (take end ns₀) ++ drop end ns₀
-lowering-end i ns₀ ns j end h g L = let e : j ≡ end = omega arith in rw e at (L .shape)
+pub lowering-end : (g : ℕ → ℕ) (ns₀ ns : List ℕ) (j end : ℕ) → end ≤ j → j ≤ end → Lowering g ns₀ ns j → ns ≡ map g (take end ns₀) ++ drop end ns₀
+lowering-end g ns₀ ns j end h l L = let e : j ≡ end = omega arith in rw e at (L .shape)
+
+pub one-less-from : (i n : ℕ) → n - boolByte (leb i n) ≡ lessFrom i n
+one-less-from i n = cases (leb i n) (λ e. rw e) (λ e. rw e (omega arith))
 
 -- Counting numbers up to a limit
 

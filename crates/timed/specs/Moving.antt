@@ -30,6 +30,11 @@ pub record SunkAllTimed (used floor : ℕ) (numbers pages times numbers′ pages
   pub follows : Follows used pages times pages′ times′
   pub behind : drop used times′ ≡ drop used times
 
+-- the same, where the times are a function of their pages
+pub record SunkTogether (used floor : ℕ) (numbers pages times numbers′ pages′ times′ : List ℕ) : Type 0 where
+  pub told : (f : ℕ → ℕ) → take used times ≡ map f (take used pages)
+      → (rowsOf numbers′ pages′ ≡ sunkAll used floor (rowsOf numbers pages)) × (take used times′ ≡ map f (take used pages′)) × (drop used times′ ≡ drop used times)
+
 -- the first entries without the one at `at`
 abbrev pub others {ℓ} : {A : Type ℓ} → (at used : ℕ) → List A → List A
 others at used list = take at list ++ take (used - suc at) (drop (suc at) list)
