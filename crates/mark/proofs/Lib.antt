@@ -2,9 +2,11 @@ pub mod Formed
 pub mod Points
 pub mod Refusals
 pub mod Tables
+pub mod Advancing
 pub mod Stepping
 pub mod Requests
 pub mod Blank
 pub mod Onward
 pub mod Tracing
+pub mod WholeBundles
 pub mod Standing

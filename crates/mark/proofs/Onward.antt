@@ -45,7 +45,7 @@ module _ (k a p : ℕ) (at : Point) (x : Lent) (R : StepReady k a at x) (space :
   left = lentServed k a p (heldAt at x) x
 
   formed-after : FormedRows k a (topAfter (ruleIn k (at .s) p (rowsIn x)) k a (at .s)) (rowsAfter k a (at .s) p (rowsIn x))
-  formed-after = request-forms k a (at .s) p (rowsIn x) (R .sound .sizes .a-low) (R .sound .sizes .a-high) (R .formed)
+  formed-after = request-forms k a (at .s) p (rowsIn x) (R .table .sound .sizes .a-low) (R .table .sound .sizes .a-high) (R .table .formed)
 
   table-left : rowsOf (lentServed k a p (heldAt at x) x .numbers) (lentServed k a p (heldAt at x) x .pages)
       ≡ tableOf (length (x .pages)) (rowsAfter k a (at .s) p (rowsIn x))
@@ -100,8 +100,8 @@ module _ (k a p : ℕ) (at : Point) (x : Lent) (R : StepReady k a at x) (space :
   clock-before : Timed (heldAt at x .clock)
   clock-before =
       record {
-        most = λ i. getD-take i (length (rowsIn x)) (x .times) (at .t) (R .times-low);
-        beside-rows = length-take-le (length (rowsIn x)) (x .times) (omega (arith, R .fits, R .counted, R .beside));
+        most = λ i. getD-take i (length (rowsIn x)) (x .times) (at .t) (R .table .times-low);
+        beside-rows = length-take-le (length (rowsIn x)) (x .times) (omega (arith, R .table .fits, R .table .counted, R .table .beside));
       }
     where
       getD-take : (i n : ℕ) (ts : List ℕ) (t : ℕ) → ((j : ℕ) → getD ts j 0 ≤ t) → getD (take n ts) i 0 ≤ t
@@ -136,15 +136,17 @@ module _ (k a p : ℕ) (at : Point) (x : Lent) (R : StepReady k a at x) (space :
         buffer = served-ready k a (at .count) p (priorityNext p (heldAt at x .clock)) (joinsNext k p (heldAt at x .clock)) (x .cache) (x .marks) (x .priorities)
             (x .evicted) _ _ _ _ (record { answer = kindNumber (markKind k p (heldAt at x .cached)); count = length (m .cached) }) (R .buffer)
             (record { answer-told = refl; count-told = refl; cache-told = refl; marks-told = refl; priorities-told = refl; evicted-told = refl }) kept;
-        sound = record { sizes = R .sound .sizes; s-high = formed-after .most };
-        formed = rw rows-left formed-after;
-        shape = table-left ∙ rw (rows-left, pages-places) refl;
-        counted = ap (λ (l : List Row). length l) (sym rows-left);
-        fits = rw pages-places space;
-        even = pages-places ∙ sym numbers-places;
-        beside = times-places ∙ sym pages-places;
-        blank = drop-at (m .clock .times) (replicate (length (x .pages) - length rows) 0) (length rows) times-count ∙ rw pages-places refl;
-        times-low = times-bound;
-        shown = rw rows-left refl;
-        further = later;
+        table = record {
+          sound = record { sizes = R .table .sound .sizes; s-high = formed-after .most };
+          formed = rw rows-left formed-after;
+          shape = table-left ∙ rw (rows-left, pages-places) refl;
+          counted = ap (λ (l : List Row). length l) (sym rows-left);
+          fits = rw pages-places space;
+          even = pages-places ∙ sym numbers-places;
+          beside = times-places ∙ sym pages-places;
+          blank = drop-at (m .clock .times) (replicate (length (x .pages) - length rows) 0) (length rows) times-count ∙ rw pages-places refl;
+          times-low = times-bound;
+          shown = rw rows-left refl;
+          further = later;
+        };
       }

@@ -73,17 +73,19 @@ module _ (run : MarkRun) (count : ℕ) (x : Lent) (R : Ready run count x) where
           evicted-room = R .roomy .evicted-room;
           rises = R .rises;
         };
-        sound = record { sizes = R .sizes; s-high = rows-formed .most };
-        formed = rows-formed;
-        shape = table-shape;
-        counted = counted;
-        fits = rw counted (used-fit (x .numbers) (x .pages) even table-shape (rows-formed .above));
-        even = even;
-        beside = R .roomy .times-even;
-        blank = rw counted (times-blank (x .numbers) (x .pages) even table-shape (rows-formed .above) (run .t) (x .times) (R .roomy .times-even) (R .times));
-        times-low = times-low (run .t) (x .numbers) (x .times) (R .roomy .times-even ∙ even) (R .times);
-        shown = told;
-        further = omega (arith, R .recorded .time-low);
+        table = record {
+          sound = record { sizes = R .sizes; s-high = rows-formed .most };
+          formed = rows-formed;
+          shape = table-shape;
+          counted = counted;
+          fits = rw counted (used-fit (x .numbers) (x .pages) even table-shape (rows-formed .above));
+          even = even;
+          beside = R .roomy .times-even;
+          blank = rw counted (times-blank (x .numbers) (x .pages) even table-shape (rows-formed .above) (run .t) (x .times) (R .roomy .times-even) (R .times));
+          times-low = times-low (run .t) (x .numbers) (x .times) (R .roomy .times-even ∙ even) (R .times);
+          shown = told;
+          further = omega (arith, R .recorded .time-low);
+        };
       }
 
   pub answer-ready : run .requests < 4294967295 → AnswerReady run

@@ -70,10 +70,10 @@ module _ (k a : ℕ) (trace : List ℕ) (places i bundles loads : ℕ) (at : Poi
       ap (λ (y : Marking). y .clock .layers .rows) (Y .holds) ∙ ap (λ (T : Tabled). T .rows) (marking-layers k a (take i trace)) ∙ rw all refl in
       let clock : take (length (rowsIn x)) (x .times) ≡ clockAfter k a trace noClock .times =
       ap (λ (y : Marking). y .clock .times) (Y .holds) ∙ ap (λ c. c .times) (marking-clock k a (take i trace) noMarking) ∙ rw all refl in
-      let shape : rowsOf (x .numbers) (x .pages) ≡ tableOf places (tabledAfter k a trace nothingYet .rows) = R .shape ∙ rw (Y .size, layers) refl in
-      let pages : x .pages ≡ pagesOf (tableOf places (tabledAfter k a trace nothingYet .rows)) = sym (pages-back (x .numbers) (x .pages) (R .even)) ∙ ap pagesOf shape in
+      let shape : rowsOf (x .numbers) (x .pages) ≡ tableOf places (tabledAfter k a trace nothingYet .rows) = R .table .shape ∙ rw (Y .size, layers) refl in
+      let pages : x .pages ≡ pagesOf (tableOf places (tabledAfter k a trace nothingYet .rows)) = sym (pages-back (x .numbers) (x .pages) (R .table .even)) ∙ ap pagesOf shape in
       let numbers : x .numbers ≡ numbersOf (tableOf places (tabledAfter k a trace nothingYet .rows)) =
-      sym (numbers-back (x .numbers) (x .pages) (R .even)) ∙ ap numbersOf shape in
+      sym (numbers-back (x .numbers) (x .pages) (R .table .even)) ∙ ap numbersOf shape in
       let times : x .times ≡ timesOf places (tabledAfter k a trace nothingYet .rows) (clockAfter k a trace noClock .times) = times-whole layers clock in
       record {
         full-told = rw (← count, Y .full-left, none) refl;
@@ -91,7 +91,7 @@ module _ (k a : ℕ) (trace : List ℕ) (places i bundles loads : ℕ) (at : Poi
           → x .times ≡ timesOf places (tabledAfter k a trace nothingYet .rows) (clockAfter k a trace noClock .times)
       times-whole layers clock =
           let R = Y .ready in
-          let behind : drop (length (rowsIn x)) (x .times) ≡ replicate (places - length (rowsIn x)) 0 = rw (R .counted, Y .size) at (R .blank) in
+          let behind : drop (length (rowsIn x)) (x .times) ≡ replicate (places - length (rowsIn x)) 0 = rw (R .table .counted, Y .size) at (R .table .blank) in
           sym (parts (length (rowsIn x)) (x .times)) ∙ rw (clock, behind, layers) refl
 
   -- A request more
@@ -209,17 +209,19 @@ tracing-start k a trace places cache marks priorities evicted right c m p e =
           evicted-room = omega (arith, right .k-high, right .a-high);
           rises = refl;
         };
-        sound = record { sizes = right; s-high = omega arith };
-        formed = rw none (no-rows-formed k a);
-        shape = rw (none, size, whole) (blank-rows places);
-        counted = rw none refl;
-        fits = omega arith;
-        even = refl;
-        beside = refl;
-        blank = rw (size, whole) refl;
-        times-low = λ i. zeros-low places i 0;
-        shown = refl;
-        further = omega arith;
+        table = record {
+          sound = record { sizes = right; s-high = omega arith };
+          formed = rw none (no-rows-formed k a);
+          shape = rw (none, size, whole) (blank-rows places);
+          counted = rw none refl;
+          fits = omega arith;
+          even = refl;
+          beside = refl;
+          blank = rw (size, whole) refl;
+          times-low = λ i. zeros-low places i 0;
+          shown = refl;
+          further = omega arith;
+        };
       };
       within = omega arith;
       size = size;

@@ -7,18 +7,38 @@ ghost use lib.ListN.{length, getD};
 ghost use Rattle.lists.specs.Choice.{pick, _and_};
 ghost use Rattle.lists.specs.Pages.{bit};
 ghost use Rattle.paging.specs.Layers.{isJoin};
+ghost use Rattle.paging.specs.Policy.{kindNumber};
 ghost use Rattle.paging.specs.Refusals.{fullCounter, largestK};
 ghost use Rattle.table.specs.Serving.{ruleOf};
+ghost use Rattle.marking.proofs.Whole.{wholeKind};
 ghost use Rattle.layers.specs.Calls.{runCounted, replyBy};
 ghost use Rattle.layers.specs.inner.Counting.{CountersFit};
 ghost use Rattle.mark.specs.Lent.{lent};
-ghost use Rattle.mark.specs.inner.Stepping.{StepReady, SteppedTo, AnswerReady, answeredBy};
+ghost use Rattle.mark.specs.Traces.{tableWith};
+ghost use Rattle.mark.specs.inner.Stepping.{TableReady, AdvancedTo, StepReady, SteppedTo, AnswerReady, answeredBy};
 use crate::MarkReply;
 use crate::MarkRun;
 use layers::LayersRun;
 use table::RuleApplied;
 
-// What stands beside the lists: s, the time t, how many pages are revealed, the used places of the table, and the count of cached pages.
+// What stands beside the layer table: s, the time t, how many pages are revealed, and the used places.
+pub(crate) struct TablePoint {
+    pub s: u32,
+    pub t: u32,
+    pub revealed: usize,
+    pub used: usize,
+}
+
+// What a request did to the layer table: whether it had no room, so that nothing was done; the layers' rule, what stands beside the table after it, and
+// the priority that the page gets.
+pub(crate) struct Advanced {
+    pub full: bool,
+    pub rule: RuleApplied,
+    pub after: TablePoint,
+    pub priority: u64,
+}
+
+// What stands beside all lists: the same, and the count of cached pages.
 pub(crate) struct Point {
     pub s: u32,
     pub t: u32,
@@ -86,6 +106,17 @@ fn clears(rule: RuleApplied) -> bool
     }
 }
 
+// What a request answers where a bundle takes all k pages: 0 by 1c, 1 by 1a, 2 by 1b.
+pub(crate) fn whole_answer(rule: RuleApplied) -> u32
+    ensures { λ r. ⌜ r ≡ kindNumber (wholeKind (ruleOf rule)) ⌝ }
+{
+    match rule {
+        RuleApplied::Append => 1,
+        RuleApplied::Join => 2,
+        RuleApplied::Lift => 0,
+    }
+}
+
 // How many pages are revealed after a request: one after a 1b, else one more if the page was not.
 fn revealed_after(joined: bool, revealed: bool, before: usize) -> usize
     requires { ⌜ before < 65536 ⌝ }
@@ -100,7 +131,42 @@ fn revealed_after(joined: bool, revealed: bool, before: usize) -> usize
     before + 1
 }
 
-// One request.
+// One request on the layer table, with t0 beside it.
+pub(crate) fn advance(
+    k: u32,
+    a: u32,
+    point: TablePoint,
+    page: u32,
+    pages: &mut [u32],
+    numbers: &mut [u32],
+    times: &mut [u32],
+) -> Advanced
+    requires { ⌜ TableReady k a point (tableWith (now pages) (now numbers) (now times)) ⌝ }
+    ensures { λ r. ⌜ AdvancedTo k a page point (tableWith (now (pages .entry)) (now (numbers .entry)) (now (times .entry)))
+        (tableWith (now (pages .exit)) (now (numbers .exit)) (now (times .exit))) r ⌝ }
+{
+    let used = point.used;
+    let at = lists::find(&pages[..used], page);
+    let revealed = is_revealed(at, used, point.revealed);
+    let t = time_after(point.t, revealed);
+    let rank = priority(t, t0_of(times, at, used, t));
+    let moved = timed::step(k, a, point.s, page, t, at, used, pages, numbers, times);
+    let rule = moved.rule;
+    let after = TablePoint {
+        s: moved.s,
+        t,
+        revealed: revealed_after(clears(rule), revealed, point.revealed),
+        used: moved.used,
+    };
+    Advanced {
+        full: moved.full,
+        rule,
+        after,
+        priority: rank,
+    }
+}
+
+// One request on all lists.
 pub(crate) fn step(
     k: u32,
     a: u32,
@@ -121,12 +187,13 @@ pub(crate) fn step(
         (lent (now (cache .exit)) (now (marks .exit)) (now (priorities .exit)) (now (evicted .exit))
         (now (pages .exit)) (now (numbers .exit)) (now (times .exit))) r ⌝ }
 {
-    let used = point.used;
-    let at = lists::find(&pages[..used], page);
-    let revealed = is_revealed(at, used, point.revealed);
-    let t = time_after(point.t, revealed);
-    let rank = priority(t, t0_of(times, at, used, t));
-    let moved = timed::step(k, a, point.s, page, t, at, used, pages, numbers, times);
+    let before = TablePoint {
+        s: point.s,
+        t: point.t,
+        revealed: point.revealed,
+        used: point.used,
+    };
+    let moved = advance(k, a, before, page, pages, numbers, times);
     let rule = moved.rule;
     if moved.full {
         return Stepped {
@@ -136,24 +203,24 @@ pub(crate) fn step(
             answer: 0,
         };
     }
-    let joined = clears(rule);
     let served = marked::serve(
         k as usize,
         a as usize,
         point.count,
         page,
-        rank,
-        joined,
+        moved.priority,
+        clears(rule),
         cache,
         marks,
         priorities,
         evicted,
     );
+    let there = moved.after;
     let after = Point {
-        s: moved.s,
-        t,
-        revealed: revealed_after(joined, revealed, point.revealed),
-        used: moved.used,
+        s: there.s,
+        t: there.t,
+        revealed: there.revealed,
+        used: there.used,
         count: served.count,
     };
     Stepped {

@@ -6,6 +6,7 @@ ghost use Rattle.mark.specs.inner.Over.{TraceReady, ServedOver};
 use crate::MarkRun;
 use crate::serving;
 use crate::serving::Point;
+use crate::serving::TablePoint;
 
 // What the requests of a trace came to: whether the table was too small on the way, bundles and loads.
 pub(crate) struct Served {
@@ -60,8 +61,8 @@ pub(crate) fn early_refusal(
     9
 }
 
-// Serves a trace on a table that is all unused. It stops at the first request after which there would be too many pages.
-pub(crate) fn serve_all(
+// The requests of a trace on a table that is all unused, with the buffer beside it. It stops at the first request after which there would be too many pages.
+fn serve_buffered(
     k: u32,
     a: u32,
     trace: &[u32],
@@ -118,6 +119,70 @@ pub(crate) fn serve_all(
         bundles,
         loads,
     }
+}
+
+// The same where a = k. A bundle then takes all k pages, so that the cached pages are those that have a row in the table: no buffer is kept, and the layers'
+// rule says what a request is.
+fn serve_whole_bundles(
+    k: u32,
+    trace: &[u32],
+    pages: &mut [u32],
+    numbers: &mut [u32],
+    times: &mut [u32],
+) -> Served
+    requires { ⌜ TraceReady k k (now trace) (tableWith (now pages) (now numbers) (now times)) ⌝ }
+    ensures { λ r. ⌜ ServedOver k k (now (trace .entry)) (tableWith (now (pages .entry)) (now (numbers .entry)) (now (times .entry)))
+        (tableWith (now (pages .exit)) (now (numbers .exit)) (now (times .exit))) r ⌝ }
+{
+    let mut point = TablePoint {
+        s: 0,
+        t: 0,
+        revealed: 0,
+        used: 0,
+    };
+    let mut bundles = 0;
+    let mut loads = 0;
+    let mut i = 0;
+    while i < trace.len() {
+        let moved = serving::advance(k, k, point, trace[i], pages, numbers, times);
+        if moved.full {
+            return Served {
+                full: true,
+                bundles: 0,
+                loads: 0,
+            };
+        }
+        let rule = moved.rule;
+        let answer = serving::whole_answer(rule);
+        bundles += serving::bundles(answer);
+        loads += serving::loads(answer);
+        point = moved.after;
+        i += 1;
+    }
+    Served {
+        full: false,
+        bundles,
+        loads,
+    }
+}
+
+// Serves a trace on a table that is all unused.
+pub(crate) fn serve_all(
+    k: u32,
+    a: u32,
+    trace: &[u32],
+    pages: &mut [u32],
+    numbers: &mut [u32],
+    times: &mut [u32],
+) -> Served
+    requires { ⌜ TraceReady k a (now trace) (tableWith (now pages) (now numbers) (now times)) ⌝ }
+    ensures { λ r. ⌜ ServedOver k a (now (trace .entry)) (tableWith (now (pages .entry)) (now (numbers .entry)) (now (times .entry)))
+        (tableWith (now (pages .exit)) (now (numbers .exit)) (now (times .exit))) r ⌝ }
+{
+    if a == k {
+        return serve_whole_bundles(k, trace, pages, numbers, times);
+    }
+    serve_buffered(k, a, trace, pages, numbers, times)
 }
 
 // The whole table unused again.

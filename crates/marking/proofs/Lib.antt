@@ -1,3 +1,4 @@
 pub mod Examples
 pub mod Along
 pub mod Revealed
+pub mod Whole
