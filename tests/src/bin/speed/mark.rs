@@ -6,8 +6,9 @@ use bench_tests::exported::{exports, marking};
 use bench_tests::model::mark::{Lists, Record};
 use bench_tests::model::{layers, queue, TRACE_MAX};
 use bench_tests::plain;
+use bench_tests::rng::Rng;
 use bench_tests::timing::{opaque, Table, REPEATS};
-use bench_tests::traces::scattered;
+use bench_tests::traces::{of_kind, scattered, KINDS};
 
 /// The timed traces with their names, and one of a parked tug.
 fn named(a: u32) -> Vec<(String, Vec<u32>)> {
@@ -17,11 +18,11 @@ fn named(a: u32) -> Vec<(String, Vec<u32>)> {
 }
 
 /// Marking over a trace on a table of its own, which is cleared each time: refusal, bundles, loads.
-fn over_trace(a: u32, pages: &[u32], table: &mut [Vec<u32>; 3]) -> [u64; 3] {
+fn over_trace(k: u32, a: u32, pages: &[u32], table: &mut [Vec<u32>; 3]) -> [u64; 3] {
     table.iter_mut().for_each(|list| list.fill(0));
     let [places, numbers, times] = table;
     let mut out = [0; 3];
-    marking::mark_over_trace(K, a, opaque(pages), places, numbers, times, &mut out);
+    marking::mark_over_trace(k, a, opaque(pages), places, numbers, times, &mut out);
     out
 }
 
@@ -33,7 +34,7 @@ pub fn time_traces(table: &mut Table) {
     for a in [1, 64] {
         for (name, pages) in named(a) {
             let mut places = unused();
-            let ours = || over_trace(a, &pages, &mut places);
+            let ours = || over_trace(K, a, &pages, &mut places);
             let plain = || {
                 let (bundles, loads, ..) = plain::mark::run(K, a, opaque(&pages));
                 [0, bundles, loads].map(u64::from)
@@ -43,17 +44,48 @@ pub fn time_traces(table: &mut Table) {
     }
 }
 
+/// The pairs of k and a at which marking is timed beside the layers: the largest buffer with bundles of
+/// all sizes, and small ones.
+const SIZES: [(u32, u32); 12] = [
+    (256, 1),
+    (256, 16),
+    (256, 64),
+    (256, 128),
+    (256, 255),
+    (256, 256),
+    (64, 32),
+    (64, 64),
+    (16, 4),
+    (16, 8),
+    (16, 15),
+    (2, 1),
+];
+
+/// The four kinds of traces for k and a, and cycles of a little more than k pages.
+fn sized(k: u32, a: u32) -> Vec<(String, Vec<u32>)> {
+    let mut rng = Rng::new(8);
+    let mut out: Vec<(String, Vec<u32>)> = KINDS
+        .iter()
+        .map(|&kind| (kind.name().to_string(), of_kind(kind, k, a, TRACE_MAX, &mut rng, scattered)))
+        .collect();
+    for more in [1, k / 4 + 1] {
+        let cycle = (0..TRACE_MAX).map(|t| scattered(t % (k + more) as usize)).collect();
+        out.push((format!("cyclic k + {}", more), cycle));
+    }
+    out.into_iter().map(|(name, pages)| (format!("k {}, a {}, {}", k, a, name), pages)).collect()
+}
+
 /// Beside the layers alone over the same trace; of both answers only the refusal is the same.
 pub fn time_beside_layers(table: &mut Table) {
-    for a in [1, 64] {
-        for (name, pages) in named(a) {
+    for (k, a) in SIZES {
+        for (name, pages) in sized(k, a) {
             let (mut places, mut others) = (unused(), unused());
-            let ours = || over_trace(a, &pages, &mut places)[0];
+            let ours = || over_trace(k, a, &pages, &mut places)[0];
             let alone = || {
                 others[..2].iter_mut().for_each(|list| list.fill(0));
                 let [places, numbers, _] = &mut others;
                 let mut out = [0; 4];
-                exports::layers_over_trace(K, a, opaque(&pages), places, numbers, &mut out);
+                exports::layers_over_trace(k, a, opaque(&pages), places, numbers, &mut out);
                 out[0]
             };
             table.row("mark beside the layers", name, 1, &mut { ours }, &mut { alone });
