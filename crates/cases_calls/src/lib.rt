@@ -59,6 +59,14 @@ pub fn answer(
         LAYERS => traces::layers(n, first, second, third),
         STEPS => traces::steps(n, first, second, third),
         RULES => traces::rules(n, first, second, third),
+        _ => return asked(call, n, first, second, third),
+    }
+    true
+}
+
+// The calls that are not on whole traces.
+fn asked(call: u16, n: Numbers, first: &mut [u32], second: &mut [u32], third: &[u32]) -> bool {
+    match call {
         CACHE => requests::lru(n, first, second),
         LOAD => requests::fifo(n, first, second),
         CACHE_PREVIEW => requests::lru_preview(n, first, second),
@@ -66,6 +74,14 @@ pub fn answer(
         TABLE => requests::table(n, first, second),
         REVEALED => requests::revealed(n, first, second),
         POSSIBLE => requests::possible(n, first, second, third),
+        _ => return marked(call, n, first, second),
+    }
+    true
+}
+
+// Marking, which leaves the lists of the row as they are, and these lists.
+fn marked(call: u16, n: Numbers, first: &[u32], second: &[u32]) -> bool {
+    match call {
         MARK => marking::request(n, first, second),
         RDM => marking::over_trace(n, first, second),
         FIRST => show::list(first),

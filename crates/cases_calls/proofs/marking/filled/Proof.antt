@@ -7,10 +7,10 @@ use Rattle.cases_calls.proofs.marking.filled.Statement.{statement}
 use Rattle.cases_calls.proofs.marking.filled.Tie as tie
 
 abbrev Inv-loop : tie.InvT-loop
-Inv-loop from at places to₀ left₀ next₀ i₀ to left next i = (next ≤ length from) × (i ≤ length to) × (length to ≡ length to₀)
+Inv-loop from to₀ i₀ to i = (i ≤ length from) × (i ≤ length to) × (length to ≡ length to₀)
 
 abbrev μ-loop : tie.MeasureT-loop
-μ-loop from at places to₀ left₀ next₀ i₀ to left next i = length to - i
+μ-loop from to₀ i₀ to i = length to - i
 
 pub filled-spec : {M : Type 1} → statement M
 filled-spec =
@@ -18,10 +18,6 @@ filled-spec =
     (tie.spec
     Inv-loop
     μ-loop
-    (λ c. search needs)
-    (λ c. search needs)
-    (λ c. search needs)
-    (λ c. search needs)
     (λ c. search needs)
     (λ c. search needs)
     (λ c. search needs)
