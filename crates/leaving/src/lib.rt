@@ -1,7 +1,5 @@
 // The cached pages that leave together: a bundle, taken out of three lists beside each other, which have the cached pages by page rising, their marks and
 // their priorities. An inner crate: other crates call it.
-ghost use mathlib.Core.Path.{_≡_};
-ghost use Rattle.marking.specs.Marking.{cachedAt, sooner};
 ghost use Rattle.leaving.specs.Buffer.{BundleReady, BundleLeft};
 
 mod places;
@@ -11,26 +9,6 @@ mod together;
 
 // So few pages are quicker found one by one than by sorting all.
 const FEW: usize = 16;
-
-// Whether a cached page leaves before another: unmarked ones first, then the lower priority, then the lower page.
-pub(crate) fn leaves_before(
-    page: u32,
-    mark: u32,
-    priority: u64,
-    page2: u32,
-    mark2: u32,
-    priority2: u64,
-) -> bool
-    ensures { λ r. ⌜ r ≡ sooner (cachedAt page mark priority) (cachedAt page2 mark2 priority2) ⌝ }
-{
-    if mark == mark2 {
-        if priority == priority2 {
-            return page < page2;
-        }
-        return priority < priority2;
-    }
-    mark < mark2
-}
 
 // Takes a of the n cached pages out, and puts their page numbers into the evicted list, the first to leave first.
 pub fn bundle(

@@ -1,14 +1,12 @@
 // One request on a state that was judged, or that a trace has led to: the page is found in the layer table, its priority is worked out, then the table
 // and the cached pages are moved on. No check here but for room in the table, and that before anything is written.
-ghost use Prim.Native.Nat.{_+_, _*_, _-_, _≤_, _<_};
+ghost use Prim.Native.Nat.{_≤_};
 ghost use mathlib.Core.Path.{_≡_};
-ghost use lib.Dec.{eqb, leb, ltb};
-ghost use lib.ListN.{length, getD};
-ghost use Rattle.lists.specs.Choice.{pick, _and_};
+ghost use lib.Dec.{eqb, ltb};
 ghost use Rattle.lists.specs.Pages.{bit};
 ghost use Rattle.paging.specs.Layers.{isJoin};
 ghost use Rattle.paging.specs.Policy.{kindNumber};
-ghost use Rattle.paging.specs.Refusals.{fullCounter, largestK};
+ghost use Rattle.paging.specs.Refusals.{largestK};
 ghost use Rattle.table.specs.Serving.{ruleOf};
 ghost use Rattle.marking.proofs.Whole.{wholeKind};
 ghost use Rattle.layers.specs.Calls.{runCounted, replyBy};
@@ -55,46 +53,6 @@ pub(crate) struct Stepped {
     pub answer: u32,
 }
 
-// Whether the page at a place of the table is revealed: it is one of the last so many used places.
-fn is_revealed(at: usize, used: usize, revealed: usize) -> bool
-    ensures { λ r. ⌜ r ≡ (leb (used - revealed) at and ltb at used) ⌝ }
-{
-    if at < used {
-        return used - at <= revealed;
-    }
-    false
-}
-
-// The time: it rises at each request of a page that was not revealed.
-fn time_after(t: u32, revealed: bool) -> u32
-    requires { ⌜ t < fullCounter ⌝ }
-    ensures { λ r. ⌜ r ≡ pick revealed t (t + 1) ⌝ }
-{
-    if revealed {
-        return t;
-    }
-    t + 1
-}
-
-// t0 of the page: as it stands beside its place in the table, and the present time where it has none.
-fn t0_of(times: &[u32], at: usize, used: usize, t: u32) -> u32
-    requires { ⌜ used ≤ length (now times) ⌝ }
-    ensures { λ r. ⌜ r ≡ pick (ltb at used) (getD (now (times .entry)) at 0) t ⌝ }
-{
-    if at < used {
-        return times[at];
-    }
-    t
-}
-
-// RDM: nine times the time less t0.
-fn priority(t: u32, t0: u32) -> u64
-    requires { ⌜ t0 ≤ t ⌝ }
-    ensures { λ r. ⌜ r ≡ 9 * t - t0 ⌝ }
-{
-    9 * (t as u64) - t0 as u64
-}
-
 // Whether all marks are cleared: the layers' rule is 1b.
 fn clears(rule: RuleApplied) -> bool
     ensures { λ r. ⌜ r ≡ isJoin (ruleOf rule) ⌝ }
@@ -117,20 +75,6 @@ pub(crate) fn whole_answer(rule: RuleApplied) -> u32
     }
 }
 
-// How many pages are revealed after a request: one after a 1b, else one more if the page was not.
-fn revealed_after(joined: bool, revealed: bool, before: usize) -> usize
-    requires { ⌜ before < 65536 ⌝ }
-    ensures { λ r. ⌜ r ≡ pick joined 1 (pick revealed before (before + 1)) ⌝ }
-{
-    if joined {
-        return 1;
-    }
-    if revealed {
-        return before;
-    }
-    before + 1
-}
-
 // One request on the layer table, with t0 beside it.
 pub(crate) fn advance(
     k: u32,
@@ -147,15 +91,15 @@ pub(crate) fn advance(
 {
     let used = point.used;
     let at = lists::find(&pages[..used], page);
-    let revealed = is_revealed(at, used, point.revealed);
-    let t = time_after(point.t, revealed);
-    let rank = priority(t, t0_of(times, at, used, t));
+    let revealed = rank::is_revealed(at, used, point.revealed);
+    let t = rank::time_after(point.t, revealed);
+    let rank = rank::priority(t, rank::t0_of(times, at, used, t));
     let moved = timed::step(k, a, point.s, page, t, at, used, pages, numbers, times);
     let rule = moved.rule;
     let after = TablePoint {
         s: moved.s,
         t,
-        revealed: revealed_after(clears(rule), revealed, point.revealed),
+        revealed: rank::revealed_after(clears(rule), revealed, point.revealed),
         used: moved.used,
     };
     Advanced {

@@ -28,11 +28,6 @@ pub cached-cleared : (clear : Bool) (ps ms ns : List ℕ)
 cached-cleared true ps ms ns = cleared-of ps ms ns
 cached-cleared false ps ms ns = refl
 
-pub pages-cleared : (clear : Bool) (xs : List Cached) → pagesIn (cleared clear xs) ≡ pagesIn xs
-pages-cleared false xs = refl
-pages-cleared true [] = refl
-pages-cleared true (x ∷ xs) = ap (λ (l : List ℕ). x .page ∷ l) (pages-cleared true xs)
-
 -- A page put in
 
 pub map-put : (f : Cached → ℕ) (c : ℕ) (x : Cached) (xs : List Cached) → map f (take c xs ++ (x ∷ drop c xs)) ≡ take c (map f xs) ++ (f x ∷ drop c (map f xs))

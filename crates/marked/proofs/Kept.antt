@@ -18,12 +18,12 @@ use Rattle.lists.proofs.Pages.{count-append, count-not, mem-here, mem-there}
 use Rattle.lists.proofs.Sorting.{length-insert, length-sort, count-sort}
 use Rattle.marking.specs.Marking.{Cached, cachedAt, pagesIn, marksIn, prioritiesIn, sooner, byPage, cleared, markBundle, spared, markServed}
 use Rattle.marking.specs.Lists.{cachedIn, rising, allMarks}
+use Rattle.marking.proofs.Cached.{hit-pages, cleared-pages, cleared-length}
 use Rattle.leaving.proofs.Cached.{cached-back, pages-in, length-cached}
 use Rattle.leaving.proofs.Taken.{length-filter}
 use Rattle.marked.specs.Buffer.{BufferReady, ServedTo}
 use Rattle.marked.specs.declared.Served.{Served}
-use Rattle.marked.proofs.Cached.{pages-cleared}
-use Rattle.marked.proofs.Requests.{hit-pages, ready-roomy}
+use Rattle.marked.proofs.Requests.{ready-roomy}
 use Rattle.marked.proofs.Rising.{rising-distinct, rising-filter, rising-insert, mem-filter}
 
 -- no page stands twice among pages that rise
@@ -53,7 +53,7 @@ pub served-rises : (k a : ℕ) (clear : Bool) (p n : ℕ) (xs : List Cached) →
     → rising (pagesIn (markServed k a clear p n xs)) ≡ true
 served-rises k a clear p n xs r =
     let zs = cleared clear xs in
-    let same = pages-cleared clear xs in
+    let same = cleared-pages clear xs in
     let up : rising (pagesIn zs) ≡ true = rw same r in
     let f : Cached → Bool = λ x. not (mem (x .page) (pagesIn (markBundle a zs))) in
     served-by (λ ys. rising (pagesIn ys) ≡ true) k a clear p n xs
@@ -101,10 +101,6 @@ served-marks k a clear p n xs e =
 
 -- At most k pages are cached
 
-length-cleared : (clear : Bool) (xs : List Cached) → length (cleared clear xs) ≡ length xs
-length-cleared false xs = refl
-length-cleared true xs = length-map xs (λ x. cachedAt (x .page) 0 (x .priority))
-
 count-pages : (f : ℕ → Bool) (ys : List Cached) → ((q : ℕ) → mem q (pagesIn ys) ≡ true → f q ≡ true) → count (λ y. f (y .page)) ys ≡ length ys
 count-pages f [] e = refl
 count-pages f (y ∷ ys) e =
@@ -125,7 +121,7 @@ spared-most a xs h =
 pub served-most : (k a : ℕ) (clear : Bool) (p n : ℕ) (xs : List Cached) → 1 ≤ a → a ≤ k → length xs ≤ k → length (markServed k a clear p n xs) ≤ k
 served-most k a clear p n xs low high h =
     let zs = cleared clear xs in
-    let same = length-cleared clear xs in
+    let same = cleared-length clear xs in
     served-by (λ ys. length ys ≤ k) k a clear p n xs
     (rw (length-map zs (λ x. pick (eqb (x .page) p) (cachedAt p 1 n) x)) (omega arith))
     (λ m l. rw (length-insert byPage (cachedAt p 1 n) zs) (omega arith))

@@ -19,6 +19,7 @@ use Rattle.paging.specs.Policy.{Kind, hit, load, bundled, kindNumber, isBundled
 use Rattle.marking.specs.Marking.{Cached, cachedAt, pagesIn, marksIn, prioritiesIn, byPage, cleared, markBundle, spared, markedBy, markKind, markServed}
 use Rattle.marking.specs.Lists.{cachedIn, rising}
 use Rattle.marked.specs.Buffer.{BufferReady, ServedTo}
+use Rattle.marking.proofs.Cached.{hit-pages}
 use Rattle.leaving.specs.Buffer.{Roomy, LeftWith, BundleReady, BundleLeft}
 use Rattle.leaving.proofs.Cached.{pages-in, marks-in, priorities-in, length-cached, behind-on, fronted-on, set-fronted, kept-fronted, cached-left}
 use Rattle.marked.specs.Inner.{wiped, LoadReady}
@@ -26,13 +27,6 @@ use Rattle.marked.proofs.Cached.{cached-cleared, wiped-laid}
 use Rattle.marked.proofs.Rising.{rising-distinct, rising-filter}
 
 -- A hit in the three lists
-
-pub hit-pages : (p n : ℕ) (xs : List Cached) → pagesIn (map (λ x. pick (eqb (x .page) p) (cachedAt p 1 n) x) xs) ≡ pagesIn xs
-hit-pages p n [] = refl
-hit-pages p n (x ∷ xs) =
-    cases (eqb (x .page) p)
-    (λ e. rw (e, hit-pages p n xs) (ap (λ (q : ℕ). q ∷ pagesIn xs) (sym (eqb-true _ _ e))))
-    (λ e. rw (e, hit-pages p n xs))
 
 hit-absent : (p n : ℕ) (xs : List Cached) → mem p (pagesIn xs) ≡ false → map (λ x. pick (eqb (x .page) p) (cachedAt p 1 n) x) xs ≡ xs
 hit-absent p n [] m = refl

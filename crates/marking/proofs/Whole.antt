@@ -24,6 +24,7 @@ use Rattle.marking.specs.Marking.{Cached, cachedAt, pagesIn, sooner, byP
 use Rattle.marking.specs.Marking.{markKinds, markHolds, markBundles}
 use Rattle.marking.specs.Rdm.{rdm, noMarking, markingAfter}
 use Rattle.marking.proofs.Along.{marking-holds, marking-layers}
+use Rattle.marking.proofs.Cached.{hit-pages, cleared-pages, cleared-length}
 
 -- what a request is, by the rule that serves it
 abbrev pub wholeKind : LayerRule → Kind
@@ -32,22 +33,6 @@ wholeKind join = bundled
 wholeKind lift = hit
 
 -- The pages of a list of cached pages
-
-hit-pages : (p n : ℕ) (xs : List Cached) → pagesIn (map (λ x. pick (eqb (x .page) p) (cachedAt p 1 n) x) xs) ≡ pagesIn xs
-hit-pages p n [] = refl
-hit-pages p n (x ∷ xs) =
-    cases (eqb (x .page) p)
-    (λ e. rw (e, hit-pages p n xs) (ap (λ (q : ℕ). q ∷ pagesIn xs) (sym (eqb-true _ _ e))))
-    (λ e. rw (e, hit-pages p n xs))
-
-cleared-pages : (joins : Bool) (xs : List Cached) → pagesIn (cleared joins xs) ≡ pagesIn xs
-cleared-pages false xs = refl
-cleared-pages true [] = refl
-cleared-pages true (x ∷ xs) = ap (λ (l : List ℕ). x .page ∷ l) (cleared-pages true xs)
-
-pub cleared-length : (joins : Bool) (xs : List Cached) → length (cleared joins xs) ≡ length xs
-cleared-length false xs = refl
-cleared-length true xs = length-map xs (λ x. cachedAt (x .page) 0 (x .priority))
 
 mem-insert : (before : Cached → Cached → Bool) (q : ℕ) (x : Cached) (ys : List Cached)
     → mem q (pagesIn (insertBy before x ys)) ≡ eqb q (x .page) or mem q (pagesIn ys)

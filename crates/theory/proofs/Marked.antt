@@ -189,19 +189,7 @@ module _ (b xs : List Cached) where
 
 -- What serving a page does to pages and marks
 
--- a hit changes no page
-pub hit-pages : (p n : ℕ) (xs : List Cached) → pagesIn (markedBy hit 0 p n xs) ≡ pagesIn xs
-hit-pages p n [] = refl
-hit-pages p n (x ∷ xs) =
-    cases (eqb (x .page) p)
-    (λ e. let same : x .page ≡ p = eqb-true _ _ e in rw e (λ i. sym same i ∷ hit-pages p n xs i))
-    (λ e. rw e (ap (λ (l : List ℕ). x .page ∷ l) (hit-pages p n xs)))
-
--- clearing keeps the pages, and leaves no mark
-pub clear-pages : (xs : List Cached) → pagesIn (cleared true xs) ≡ pagesIn xs
-clear-pages [] = refl
-clear-pages (x ∷ xs) = ap (λ (l : List ℕ). x .page ∷ l) (clear-pages xs)
-
+-- clearing leaves no mark
 pub clear-marks : (q : ℕ) (xs : List Cached) → guarded (cleared true xs) q ≡ false
 clear-marks q xs = let z = none xs in omega tests
   where

@@ -20,13 +20,14 @@ use Rattle.paging.specs.Min.{minRule, bestCount}
 use Rattle.paging.specs.Policy.{Kind, hit, bundled, isBundled, kindOf}
 use Rattle.marking.specs.Marking.{Cached, cachedAt, pagesIn, byPage, cleared, markBundle, spared, markedBy, markKind, markServed}
 use Rattle.marking.specs.Marking.{PriorityRule, joinsAt, markKinds, markBundles}
+use Rattle.marking.proofs.Cached.{hit-pages, cleared-pages}
 use Rattle.theory.specs.Factor.{ceilDiv, SamePages, Policy, policyKinds, Taken, Step, Protects}
 use Rattle.theory.proofs.Factor.{bundles-within-factor}
 use Rattle.theory.proofs.Layers.{bundles-are-joins}
 use Rattle.theory.proofs.Orders.{minRule-is-farthest}
 use Rattle.theory.proofs.Phases.{ceilDiv-covers}
 use Rattle.theory.proofs.Marked.{isOf, markedOf, guarded, count-pages, bundle-size, bundle-held, bundle-protects, spared-count, spared-gone, spared-kept, spared-same}
-use Rattle.theory.proofs.Marked.{hit-pages, hit-keeps, hit-only, clear-pages, clear-marks, put-same, put-marks, put-keeps, put-only}
+use Rattle.theory.proofs.Marked.{hit-keeps, hit-only, clear-marks, put-same, put-marks, put-keeps, put-only}
 
 -- The policy: the requests so far, and the cached pages
 
@@ -140,7 +141,7 @@ module _ (rule : PriorityRule) (k a : ℕ) (le : a ≤ k) where
         starts = tt;
         empty = refl;
         clears = λ x s. tt;
-        clearsPages = λ x f. ap (λ (l : List ℕ). count f l) (clear-pages (x .cached));
+        clearsPages = λ x f. ap (λ (l : List ℕ). count f l) (cleared-pages true (x .cached));
         clearsGuards = λ x q. clear-marks q (x .cached);
         goesOn = λ x p s d. tt;
         steps = λ x p s d. mark-steps x p d;
@@ -155,7 +156,7 @@ module _ (rule : PriorityRule) (k a : ℕ) (le : a ≤ k) where
       let n = rule (x .requests) p in
       let P = markingPolicy rule k a in
       let rest = layered k a p L in
-      let same : markKind k p (cleared true xs) ≡ markKind k p xs = ap (λ (l : List ℕ). kindOf k p l) (clear-pages xs) in
+      let same : markKind k p (cleared true xs) ≡ markKind k p xs = ap (λ (l : List ℕ). kindOf k p l) (cleared-pages true xs) in
       by-test
       (λ joins. policyKinds P k (p ∷ ps) (joins ∷ map isJoin (layerRules k a ps rest)) x
       ≡ markKind k p xs ∷ markKinds rule k a (x .requests ++ (p ∷ [])) ps rest (markServed k a joins p n xs))

@@ -1,7 +1,7 @@
--- `leaving::leaves_before` meets its contract: by mark, by priority where the marks are one, and by page where these are.
-use Rattle.leaving.proofs.Sooner.{sooner-page, sooner-priority, sooner-mark}
-use Rattle.leaving.proofs.leaves_before.Statement.{statement}
-use Rattle.leaving.proofs.leaves_before.Tie as tie
+-- `rank::leaves_before` meets its contract: by mark, by priority where the marks are one, and by page where these are.
+use Rattle.rank.proofs.Ranks.{sooner-page, sooner-priority, sooner-mark}
+use Rattle.rank.proofs.leaves_before.Statement.{statement}
+use Rattle.rank.proofs.leaves_before.Tie as tie
 
 returns : tie.Need-returns
 returns c = sooner-page _ _ (c .before .if1 .taken) (c .if2 .taken)

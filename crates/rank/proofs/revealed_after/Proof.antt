@@ -1,7 +1,7 @@
 use mathlib.Core.Path.{refl}
 use borrow.Author.Needs.{needs}
-use Rattle.mark.proofs.serving.revealed_after.Statement.{statement}
-use Rattle.mark.proofs.serving.revealed_after.Tie as tie
+use Rattle.rank.proofs.revealed_after.Statement.{statement}
+use Rattle.rank.proofs.revealed_after.Tie as tie
 
 returns-3 : tie.Need-returns-3
 returns-3 c =

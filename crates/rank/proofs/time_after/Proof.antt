@@ -1,8 +1,8 @@
 use mathlib.Core.Path.{sym}
 use Rattle.lists.proofs.Choice.{pick-false}
 use borrow.Author.Needs.{needs}
-use Rattle.mark.proofs.serving.time_after.Statement.{statement}
-use Rattle.mark.proofs.serving.time_after.Tie as tie
+use Rattle.rank.proofs.time_after.Statement.{statement}
+use Rattle.rank.proofs.time_after.Tie as tie
 
 returns-2 : tie.Need-returns-2
 returns-2 c =

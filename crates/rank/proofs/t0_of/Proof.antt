@@ -2,8 +2,8 @@ use mathlib.Core.Path.{sym}
 use borrow.Author.Tests.{lt-ltb, le-ltb}
 use Rattle.lists.proofs.Choice.{pick-true, pick-false}
 use borrow.Author.Needs.{needs}
-use Rattle.mark.proofs.serving.t0_of.Statement.{statement}
-use Rattle.mark.proofs.serving.t0_of.Tie as tie
+use Rattle.rank.proofs.t0_of.Statement.{statement}
+use Rattle.rank.proofs.t0_of.Tie as tie
 
 returns : tie.Need-returns
 returns c =

@@ -1,8 +1,8 @@
 use native.Mathlib.Omega.{arith}
-use Rattle.mark.proofs.Points.{revealed-at, revealed-past}
+use Rattle.rank.proofs.Ranks.{revealed-at, revealed-past}
 use borrow.Author.Needs.{needs}
-use Rattle.mark.proofs.serving.is_revealed.Statement.{statement}
-use Rattle.mark.proofs.serving.is_revealed.Tie as tie
+use Rattle.rank.proofs.is_revealed.Statement.{statement}
+use Rattle.rank.proofs.is_revealed.Tie as tie
 
 returns : tie.Need-returns
 returns c =
