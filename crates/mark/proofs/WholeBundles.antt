@@ -20,7 +20,8 @@ use Rattle.paging.proofs.Runs.{kind-of-cases}
 use Rattle.table.specs.Serving.{ruleOf}
 use Rattle.marking.specs.Marking.{Cached, pagesIn, marksIn, prioritiesIn, sooner, cleared, markBundle, markKind, markServed}
 use Rattle.marking.specs.Rdm.{Marking}
-use Rattle.marking.proofs.Whole.{wholeKind, cleared-length, marking-whole}
+use Rattle.marking.proofs.Cached.{cleared-length}
+use Rattle.marking.proofs.Whole.{wholeKind, marking-whole}
 use Rattle.mark.specs.Lent.{lent}
 use Rattle.mark.specs.Traces.{Table, tableWith}
 use Rattle.mark.specs.declared.serving.Advanced.{Advanced}
