@@ -1,9 +1,14 @@
 -- `reply_fields` meets its contract: each field is widened and none is left out.
 use mathlib.Core.Path.{refl}
 use mir.Facts.{fits-widen}
+use borrow.Author.Needs.{needs}
 use Rattle.exports.proofs.mark_calls.reply_fields.Statement.{statement}
 use Rattle.exports.proofs.mark_calls.reply_fields.Tie as tie
 
+returns : tie.Need-returns
+returns c = refl
+
+-- that the count and the answer fit is searched for, so that only `returns` says which of them stands where
 pub reply-fields-spec : {M : Type 1} → statement M
 reply-fields-spec =
     tie.close
@@ -23,6 +28,6 @@ reply-fields-spec =
     (λ c. fits-widen tt (c .struct-known13 .given .1 .1 .1 .1 .1 .0))
     (λ c. fits-widen tt (c .struct-known14 .given .1 .1 .1 .1 .1 .1 .0))
     (λ c. fits-widen tt (c .struct-known15 .given .1 .1 .1 .1 .1 .1 .1 .0))
-    (λ c. fits-widen tt (c .struct-known16 .given .1 .1 .0))
-    (λ c. fits-widen tt (c .struct-known17 .given .1 .1 .1 .0))
-    (λ c. refl))
+    (λ c. search needs)
+    (λ c. search needs)
+    returns)
