@@ -1,7 +1,7 @@
 -- `mark_request` meets its contract: the fields of the answer are stored, and lent lists are as the call leaves them.
 use Rattle.exports.proofs.Stored.{stored}
 use Rattle.exports.specs.Fields.{markReplyFields}
-use borrow.Author.Needs.{needs}
+use mathlib.Core.Path.{sym}
 use Rattle.exports.proofs.mark_calls.mark_request.Statement.{statement}
 use Rattle.exports.proofs.mark_calls.mark_request.Tie as tie
 
@@ -19,10 +19,10 @@ pub mark-request-spec : {M : Type 1} → statement M
 mark-request-spec =
     tie.close
     (tie.spec
-    (λ c κs. search needs)
-    (λ c κs. search needs)
-    (λ c. search needs)
-    (λ c κs. search needs)
+    (λ c κs. tt)
+    (λ c κs. tt)
+    (λ c. sym (c .before .reply-fields .ok .1 .0 .1))
+    (λ c κs. tt)
     (λ c. c .before .before .before .before .before .before .before .before .before .before .before .before .before .before .before .before .before .before
     .before .before .request .kept .1 .1 .0)
     (λ c. c .before .before .before .before .before .before .before .before .before .before .before .before .before .before .before .before .before .before
