@@ -16,11 +16,12 @@ use Rattle.lists.specs.Sorting.{insertBy, sortBy, Least, Sorted}
 use Rattle.lists.proofs.Choice.{tests, cases, clash, and-l, and-r, and-i, and-false-l, and-false-r, or-l, same-test, not-i, bit-true, bit-false, eqb-self}
 use Rattle.lists.proofs.Pages.{Same, Once, count-append, count-snoc, count-mono, count-by, count-some, mem-of-count, count-absent}
 use Rattle.lists.proofs.Pages.{once-eraseAll, same-of-members}
-use Rattle.lists.proofs.Sorting.{Order, count-insert, count-sort, length-sort, sorted-sort, rising-order, rising-ties, order-then}
+use Rattle.lists.proofs.Sorting.{count-insert, count-sort, length-sort, sorted-sort}
 use Rattle.paging.specs.Policy.{hit}
 use Rattle.paging.specs.Schedule.{heldInTurn}
 use Rattle.paging.proofs.Forming.{count-filter, count-over}
 use Rattle.marking.specs.Marking.{Cached, cachedAt, pagesIn, sooner, byPage, cleared, markBundle, spared, markedBy}
+use Rattle.marking.proofs.Cached.{sooner-order}
 use Rattle.theory.proofs.Bundles.{count-taken, counted-held}
 
 -- an entry of page q; one that is marked; and one that is both
@@ -42,14 +43,6 @@ pub count-pages : (f : ℕ → Bool) (xs : List Cached) → count f (pagesIn xs)
 count-pages f xs = count-over f (λ x. x .page) xs
 
 -- The order in which pages leave
-
--- by mark, then by priority, then by page
-sooner-order : Order sooner
-unfolding sooner
-sooner-order =
-    order-then ltb (λ (x : Cached). x .mark) _ rising-order rising-ties
-    (order-then ltb (λ (x : Cached). x .priority) (λ x y. ltb (x .page) (y .page)) rising-order rising-ties
-    (record { one-way = λ x y e. omega tests; onward = λ x y z e f. omega tests }))
 
 -- what does not leave before a marked page is marked
 marked-behind : (x y : Cached) → isMarked x ≡ true → sooner y x ≡ false → isMarked y ≡ true
