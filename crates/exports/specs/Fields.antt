@@ -1,12 +1,9 @@
 -- The fields of each answer that is a record, in the order in which a caller receives them: the refusal's number first, 0 for none.
 use Rattle.std.specs.Prelude.{ℕ, List, [], ◌∷◌}
-use Rattle.lists.specs.Pages.{bit}
 use Rattle.traces.specs.declared.TraceCount.{TraceCount}
 use Rattle.editions.specs.declared.Converted.{Converted}
 use Rattle.queue.specs.declared.Reply.{Reply}
 use Rattle.queue.specs.declared.Totals.{Totals}
-use Rattle.least_recent.specs.declared.LruReply.{LruReply}
-use Rattle.least_recent.specs.declared.EndReply.{EndReply}
 use Rattle.min.specs.declared.Counts.{Counts}
 use Rattle.min.specs.declared.Scheduled.{Scheduled}
 use Rattle.layers.specs.declared.LayersReply.{LayersReply}
@@ -18,16 +15,6 @@ use Rattle.mark.specs.declared.MarkTotals.{MarkTotals}
 abbrev pub queue_reply_fields : Reply → List ℕ
 queue_reply_fields r =
     r.refusal ∷ r.run.k ∷ r.run.a ∷ r.run.requests ∷ r.run.loads ∷ r.run.evictions ∷ r.count ∷ r.answer ∷ []
-
--- the record's flag as 0 or 1
-abbrev pub lru_reply_fields : LruReply → List ℕ
-lru_reply_fields r =
-    r.refusal ∷ r.run.run.k ∷ r.run.run.a ∷ r.run.run.requests ∷ r.run.run.loads ∷ r.run.run.evictions ∷ bit r.run.pending
-    ∷ r.count ∷ r.answer ∷ []
-
-abbrev pub end_reply_fields : EndReply → List ℕ
-end_reply_fields r =
-    r.refusal ∷ r.run.run.k ∷ r.run.run.a ∷ r.run.run.requests ∷ r.run.run.loads ∷ r.run.run.evictions ∷ bit r.run.pending ∷ []
 
 abbrev pub queue_totals_fields : Totals → List ℕ
 queue_totals_fields r = r.refusal ∷ r.bundles ∷ r.loads ∷ []

@@ -1,17 +1,12 @@
 -- The records whose fields a caller hands over one by one.
-use Rattle.std.specs.Prelude.{ℕ, not, eqb}
+use Rattle.std.specs.Prelude.{ℕ}
 use Rattle.queue.specs.declared.Run.{Run}
-use Rattle.least_recent.specs.declared.LruRun.{LruRun}
 use Rattle.layers.specs.declared.LayersRun.{LayersRun}
 use Rattle.mark.specs.declared.MarkRun.{MarkRun}
 
 abbrev pub queue_run : (k a requests loads evictions : ℕ) → Run
 queue_run k a requests loads evictions =
     record { k = k; a = a; requests = requests; loads = loads; evictions = evictions }
-
--- a bundle is open where the number for it is not 0
-abbrev pub lru_run : (k a requests loads evictions pending : ℕ) → LruRun
-lru_run k a requests loads evictions pending = record { run = queue_run k a requests loads evictions; pending = not (eqb pending 0) }
 
 abbrev pub layers_run : (k a requests evictions s appends joins lifts : ℕ) → LayersRun
 layers_run k a requests evictions s appends joins lifts =

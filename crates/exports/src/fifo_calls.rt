@@ -1,4 +1,4 @@
-// Oldest load first: one request at a time, its preview, and a whole trace.
+// Oldest load first, one request at a time and over a whole trace.
 ghost use Rattle.std.specs.Prelude.{◌≡◌};
 ghost use Rattle.lists.specs.Places.{pasted};
 ghost use Rattle.paging.specs.declared.Keeping.TheVariants.{ByLoad};
@@ -36,35 +36,6 @@ pub extern "C" fn fifo_request(
         evictions,
     };
     let all = queue_fields::reply_fields(fifo::request(run, count, cache, evicted, page));
-    store::fields(&all, out);
-}
-
-// Its preview (document 02, request 05): the same, with the copy's record and count. The cache list is only looked at.
-#[unsafe(no_mangle)]
-pub extern "C" fn fifo_preview(
-    k: u32,
-    a: u32,
-    requests: u32,
-    loads: u32,
-    evictions: u32,
-    count: u32,
-    cache: &[u32],
-    evicted: &mut [u32],
-    page: u32,
-    out: &mut [u64],
-)
-    ensures { (out.new
-        ≡ pasted (queue_reply_fields (reply_of ByLoad (queue_run k a requests loads evictions) count cache.now evicted.old page)) out.old)
-        × (evicted.new ≡ evicted_of (queue_run k a requests loads evictions) count cache.now evicted.old page) }
-{
-    let run = Run {
-        k,
-        a,
-        requests,
-        loads,
-        evictions,
-    };
-    let all = queue_fields::reply_fields(fifo::preview(run, count, cache, evicted, page));
     store::fields(&all, out);
 }
 

@@ -3,9 +3,10 @@
 // of its caller. specs/Fields.antt has the fields of each answer that is a record, specs/Cases.antt those of each answer that is an enum.
 //   store         how fields are stored
 //   sizes         k and a
-//   lru_calls     least recent use, a request, its preview, the end of a bundle and a trace
-//   fifo_calls    oldest load first, a request, its preview and a trace
-//   queue_fields  the fields of its answers
+//   lru_calls     least recent use, a request and a trace
+//   fifo_calls    oldest load first, the same
+//   preview_calls what a request of either would answer and evict
+//   queue_fields  the fields of their answers
 //   min_calls     farthest next use, its counts and its schedule
 //   layers_calls  the layers, a request, the questions and a trace
 //   mark_calls    marking with priorities RDM beside the layers, a request and a trace
@@ -19,6 +20,7 @@ mod layers_calls;
 mod lru_calls;
 mod mark_calls;
 mod min_calls;
+mod preview_calls;
 mod queue_fields;
 mod reader_calls;
 mod sizes;

@@ -1,4 +1,4 @@
-// The fields of an answer of oldest load to a request, and of both policies over a trace.
+// The fields of an answer of least recent use or oldest load, which answer alike.
 ghost use Rattle.std.specs.Prelude.{◌≡◌};
 ghost use Rattle.exports.specs.Fields.{queue_reply_fields, queue_totals_fields};
 

@@ -5,7 +5,7 @@ ghost use Rattle.paging.specs.declared.Keeping.TheVariants.{ByLoad};
 ghost use Rattle.queue.specs.Calls.{reply_of, cache_of, evicted_of, totals_of};
 
 use paging::Keeping;
-use queue::{Further, Reply, Run, Totals};
+use queue::{Reply, Run, Totals};
 
 // One request. The evicted list receives a bundle, oldest load first.
 pub fn request(run: Run, count: u32, cache: &mut [u32], evicted: &mut [u32], page: u32) -> Reply
@@ -13,8 +13,7 @@ pub fn request(run: Run, count: u32, cache: &mut [u32], evicted: &mut [u32], pag
         × ((cache.new ≡ cache_of ByLoad run count cache.old evicted.old page)
         × (evicted.new ≡ evicted_of run count cache.old evicted.old page)) }
 {
-    let none = Further::none();
-    queue::request(Keeping::ByLoad, none, run, count, cache, evicted, page)
+    queue::request(Keeping::ByLoad, run, count, cache, evicted, page)
 }
 
 // What that request would answer and evict (document 02, request 05), with the cache list only looked at. A preview counts as no request: its reply has
@@ -23,8 +22,7 @@ pub fn preview(run: Run, count: u32, cache: &[u32], evicted: &mut [u32], page: u
     ensures { (result ≡ reply_of ByLoad run count cache.now evicted.old page)
         × (evicted.new ≡ evicted_of run count cache.now evicted.old page) }
 {
-    let none = Further::none();
-    queue::preview(none, run, count, cache, evicted, page)
+    queue::preview(run, count, cache, evicted, page)
 }
 
 // A whole trace, from the empty buffer.

@@ -10,20 +10,18 @@ use borrow.Author.Tests.{eq-eqb, ne_eqb, eqb-true, eqb-false, lt-ltb, le-ltb, le
 use Rattle.lists.specs.Choice.{pick, ◌and◌, ◌or◌}
 use Rattle.lists.specs.Pages.{distinct}
 use Rattle.lists.proofs.Choice.{tests, by_test, and_l, and_r, and_false_l, and_false_r, or_none_l, or_none_r}
-use Rattle.paging.specs.Policy.{is_bundled}
 use Rattle.paging.specs.Refusals.{refuse, sizes_refusal, trace_refusal}
-use Rattle.paging.proofs.Refusals.{Chain, chain_end, chain_refuse, chain_behind, chain_pass, chain_fall, chain_zero, zero_pass, sizes_chain, sizes_pass, sizes_fall, sizes_rest, trace_right}
+use Rattle.paging.proofs.Refusals.{zero_pass, sizes_pass, sizes_fall, sizes_rest, trace_right}
 use Rattle.paging.specs.declared.Keeping.{Keeping}
-use Rattle.queue.specs.Calls.{well_formed, run_refusal, request_refusal, further_refusal, no_further, refused, AnsweredUnless, Answered, PreviewedBy, Previewed, totals_of}
-use Rattle.queue.specs.Serving.{kind_in, cache_served, reply_served}
+use Rattle.queue.specs.Calls.{well_formed, run_refusal, request_refusal, refused, Answered, Previewed, totals_of}
+use Rattle.queue.specs.Serving.{cache_served, reply_served}
 use Rattle.queue.specs.Standing.{run_over}
-use Rattle.queue.specs.declared.Further.{Further}
 use Rattle.queue.specs.declared.Reply.{Reply}
 use Rattle.queue.specs.declared.Run.{Run}
 use Rattle.queue.specs.declared.serving.Found.{Found}
-use Rattle.queue.specs.inner.Cases.{found_in, barred_for, cache_for}
+use Rattle.queue.specs.inner.Cases.{found_in, cache_for}
 use Rattle.queue.specs.inner.Ready.{RequestReady, TraceReady}
-use Rattle.queue.proofs.Served.{Tells, barred_is, settled}
+use Rattle.queue.proofs.Served.{Tells, settled}
 
 module _ (run : Run) (count : ℕ) (cache evicted : List ℕ) (ill : Bool) where
   -- no refusal
@@ -54,30 +52,6 @@ module _ (run : Run) (count : ℕ) (cache evicted : List ℕ) (ill : Bool) where
         or_none_r _ _ nine.0,
         twelve.1,
       )
-
-  -- what is judged behind 12 does not matter where something before it holds
-  run_chain : Chain (run_refusal run count cache evicted ill)
-  unfolding run_refusal
-  run_chain =
-      let eight = ltb (length cache) run.k or ltb (length evicted) run.a in
-      let nine = not (well_formed run count cache) or ill in
-      let twelve = eqb run.requests 4294967295 in
-      chain_behind (sizes_refusal run.k run.a) (λ rest. refuse eight 8 (refuse nine 9 (refuse twelve 12 rest))) (sizes_chain run.k run.a)
-      (chain_refuse eight 8 (λ rest. refuse nine 9 (refuse twelve 12 rest)) (λ z. omega arith)
-      (chain_refuse nine 9 (λ rest. refuse twelve 12 rest) (λ z. omega arith)
-      (chain_refuse twelve 12 (λ rest. rest) (λ z. omega arith) chain_end)))
-
-  pub run_pass : (rest : ℕ) → run_refusal run count cache evicted ill 0 ≡ 0 → run_refusal run count cache evicted ill rest ≡ rest
-  run_pass = chain_pass (run_refusal run count cache evicted ill) run_chain
-
-  pub run_fall : (rest number : ℕ) → number ≡ run_refusal run count cache evicted ill 0 → (number ≡ 0 → ⊥) → run_refusal run count cache evicted ill rest ≡ number
-  run_fall = chain_fall (run_refusal run count cache evicted ill) run_chain
-
-  -- a caller that refuses more refuses where a plain request is refused
-  pub run_plain : (rest : ℕ) → run_refusal run count cache evicted ill rest ≡ 0 → request_refusal run count cache evicted ≡ 0
-  run_plain rest e =
-      ap (λ (b : Bool). run_refusal run count cache evicted b 0) (sym (run_ready rest e).1)
-      ∙ chain_zero (run_refusal run count cache evicted ill) run_chain rest e
 
   -- each return of the code
 
@@ -147,91 +121,46 @@ module _ (run : Run) (count : ℕ) (cache : List ℕ) where
 
 -- The answer and the lists
 
-module _ (further : Further) (run : Run) (count : ℕ) (cache evicted : List ℕ) (page : ℕ) where
+module _ (run : Run) (count : ℕ) (cache evicted : List ℕ) (page : ℕ) where
   -- what is found, unless the request is refused
   abbrev Finds : Reply → Found → Type 0
   Finds reply found = reply.refusal ≡ 0 → found ≡ found_in run.k page (take count cache)
 
-  refused_told : (n number : ℕ) (reply : Reply) (found : Found) → n ≡ number → (n ≡ 0 → ⊥) → reply ≡ refused n
-      → Previewed number run count cache evicted page reply evicted × Finds reply found
-  refused_told n number reply found e z q = (
+  pub tell_refused : (n : ℕ) (reply : Reply) (found : Found) → n ≡ request_refusal run count cache evicted → (n ≡ 0 → ⊥) → reply ≡ refused n
+      → Previewed run count cache evicted page reply evicted × Finds reply found
+  tell_refused n reply found e z q = (
     λ keeping. (rw (← e, ne_eqb n 0 z) q, rw (← e, ne_eqb n 0 z) refl),
     λ none. absurd (z (sym (ap (λ (r : Reply). r.refusal) q) ∙ none)),
   )
 
-  -- refused before anything is looked for
-  pub tell_refused : (n : ℕ) (reply : Reply) (found : Found) → n ≡ run_refusal run count cache evicted further.ill 0 → (n ≡ 0 → ⊥) → reply ≡ refused n
-      → Previewed (further_refusal further run count cache evicted page) run count cache evicted page reply evicted × Finds reply found
-  tell_refused n reply found e z q =
-      refused_told n _ reply found (sym (run_fall run count cache evicted further.ill _ n e z)) z q
-
-  module _ (n : ℕ) (e : n ≡ run_refusal run count cache evicted further.ill 0) (none : n ≡ 0) where
-    pub tell_ready : RequestReady run count cache evicted
-    tell_ready = (run_ready run count cache evicted further.ill 0 (sym e ∙ none)).0
-
-    module _ (found : Found) (f : found ≡ found_in run.k page (take count cache)) (barred : ℕ) (b : barred ≡ barred_for found further.bundle) where
-      barred_is_refusal : barred ≡ further_refusal further run count cache evicted page
-      barred_is_refusal =
-          b ∙ ap (λ (x : Found). barred_for x further.bundle) f ∙ barred_is run.k page (take count cache) further.bundle
-          ∙ sym (run_pass run count cache evicted further.ill _ (sym e ∙ none))
-
-      -- refused for what was found
-      pub tell_barred : (reply : Reply) (left : Found) → (barred ≡ 0 → ⊥) → reply ≡ refused barred
-          → Previewed (further_refusal further run count cache evicted page) run count cache evicted page reply evicted × Finds reply left
-      tell_barred reply left z q = refused_told barred _ reply left barred_is_refusal z q
-
-      pub tell_accepted : (reply : Reply) (v : List ℕ) → barred ≡ 0 → Tells run count cache evicted page reply v
-          → Previewed (further_refusal further run count cache evicted page) run count cache evicted page reply v × Finds reply found
-      tell_accepted reply v z t = (λ keeping. rw (sym barred_is_refusal ∙ z) (t keeping), λ none. f)
+  pub tell_accepted : (reply : Reply) (found : Found) (v : List ℕ) → request_refusal run count cache evicted ≡ 0
+      → found ≡ found_in run.k page (take count cache) → Tells run count cache evicted page reply v
+      → Previewed run count cache evicted page reply v × Finds reply found
+  tell_accepted reply found v e f t = (λ keeping. rw e (t keeping), λ none. f)
 
   -- the request itself: told, then settled
-  module _ (keeping : Keeping) (reply : Reply) (v : List ℕ) (p : Previewed (further_refusal further run count cache evicted page) run count cache evicted page reply v) where
-    refusal_is : reply.refusal ≡ further_refusal further run count cache evicted page
+  module _ (keeping : Keeping) (reply : Reply) (v : List ℕ) (p : Previewed run count cache evicted page reply v) where
+    refusal_is : reply.refusal ≡ request_refusal run count cache evicted
     refusal_is =
         ap (λ (r : Reply). r.refusal) (p keeping).0
         ∙ by_test
-        (λ b. (pick b (reply_served keeping run count cache page) (refused (further_refusal further run count cache evicted page))).refusal
-        ≡ further_refusal further run count cache evicted page)
-        (eqb (further_refusal further run count cache evicted page) 0)
+        (λ b. (pick b (reply_served keeping run count cache page) (refused (request_refusal run count cache evicted))).refusal ≡ request_refusal run count cache evicted)
+        (eqb (request_refusal run count cache evicted) 0)
         (λ e. sym (eqb-true _ _ e))
         (λ e. refl)
 
     pub request_ready : reply.refusal ≡ 0 → RequestReady run count cache evicted
-    request_ready e = (run_ready run count cache evicted further.ill _ (sym refusal_is ∙ e)).0
+    request_ready e = ready_of run count cache evicted (sym refusal_is ∙ e)
 
-    pub request_refused : (reply.refusal ≡ 0 → ⊥) → AnsweredUnless (further_refusal further run count cache evicted page) keeping run count cache evicted page reply cache v
-    request_refused z =
-        ((p keeping).0, (rw (ne_eqb (further_refusal further run count cache evicted page) 0 (λ e. z (refusal_is ∙ e))) refl, (p keeping).1))
+    pub request_refused : (reply.refusal ≡ 0 → ⊥) → Answered keeping run count cache evicted page reply cache v
+    request_refused z = ((p keeping).0, (rw (ne_eqb (request_refusal run count cache evicted) 0 (λ e. z (refusal_is ∙ e))) refl, (p keeping).1))
 
     pub request_settled : (found : Found) (y : List ℕ) → reply.refusal ≡ 0 → found ≡ found_in run.k page (take count cache)
-        → y ≡ cache_for keeping found count run.k run.a page cache
-        → AnsweredUnless (further_refusal further run count cache evicted page) keeping run count cache evicted page reply y v
+        → y ≡ cache_for keeping found count run.k run.a page cache → Answered keeping run count cache evicted page reply y v
     request_settled found y e f c =
-        let z : further_refusal further run count cache evicted page ≡ 0 = sym refusal_is ∙ e in
+        let z : request_refusal run count cache evicted ≡ 0 = sym refusal_is ∙ e in
         let s : y ≡ cache_served keeping run count cache page = c ∙ settled run count cache evicted page (request_ready e) keeping found f in
         ((p keeping).0, (rw z s, (p keeping).1))
-
-no_number : (b : Bool) → refuse b 0 0 ≡ 0
-no_number true = refl
-no_number false = refl
-
--- with nothing further, a request's refusals are those of every call on the state
-nothing_further : (run : Run) (count : ℕ) (cache evicted : List ℕ) (page : ℕ)
-    → further_refusal no_further run count cache evicted page ≡ request_refusal run count cache evicted
-nothing_further run count cache evicted page =
-    ap (run_refusal run count cache evicted false) (no_number (is_bundled (kind_in run count cache page)))
-
-module _ (keeping : Keeping) (further : Further) (run : Run) (count : ℕ) (cache evicted : List ℕ) (page : ℕ) (f : further ≡ no_further) (reply : Reply) where
-  plain_number : further_refusal further run count cache evicted page ≡ request_refusal run count cache evicted
-  plain_number = ap (λ (x : Further). further_refusal x run count cache evicted page) f ∙ nothing_further run count cache evicted page
-
-  pub plain_answered : (y v : List ℕ) → AnsweredUnless (further_refusal further run count cache evicted page) keeping run count cache evicted page reply y v
-      → Answered keeping run count cache evicted page reply y v
-  plain_answered y v p = rw plain_number at p
-
-  pub plain_previewed : (v : List ℕ) → Previewed (further_refusal further run count cache evicted page) run count cache evicted page reply v
-      → PreviewedBy keeping run count cache evicted page reply v
-  plain_previewed v p = rw plain_number at (p keeping)
 
 -- A whole trace
 

@@ -13,8 +13,7 @@ use Rattle.lists.specs.Places.{place, moved_to_end, laid}
 use Rattle.lists.proofs.Choice.{cases, tests}
 use Rattle.lists.proofs.Leaves.{mem_place, length_moved, moved_none, moved_to_end_lem}
 use Rattle.lists.proofs.Pages.{erase_all_take}
-use Rattle.paging.specs.Policy.{kind_of, is_bundled, after_hit}
-use Rattle.paging.specs.Refusals.{refuse}
+use Rattle.paging.specs.Policy.{after_hit}
 use Rattle.paging.specs.declared.Keeping.{Keeping}
 use Rattle.paging.specs.declared.Keeping.TheVariants.{ByRequest, ByLoad}
 use Rattle.queue.specs.Serving.{cache_served, evicted_served, reply_served}
@@ -22,7 +21,7 @@ use Rattle.queue.specs.declared.Reply.{Reply}
 use Rattle.queue.specs.declared.Run.{Run}
 use Rattle.queue.specs.declared.serving.Found.{Found}
 use Rattle.queue.specs.declared.serving.Found.TheVariants.{Held, Room, Full}
-use Rattle.queue.specs.inner.Cases.{found_in, barred_for, reply_for, evicted_for, moved_from, cache_for}
+use Rattle.queue.specs.inner.Cases.{found_in, reply_for, evicted_for, moved_from, cache_for}
 use Rattle.queue.specs.inner.Ready.{RequestReady, AnswerReady, SettleReady}
 
 -- Finding
@@ -63,13 +62,6 @@ module _ (k page : ℕ) (held : List ℕ) where
       (λ m. cases (ltb (length held) k)
       (λ r. let e' = rw (m, r) at e in never (cc))
       (λ r. (m, ltb-false _ _ r)))
-
-  -- what was found needs a bundle exactly where the request's kind does
-  pub barred_is : (number : ℕ) → barred_for (found_in k page held) number ≡ refuse (is_bundled (kind_of k page held)) number 0
-  barred_is number =
-      cases (mem page held)
-      (λ m. rw m refl)
-      (λ m. cases (ltb (length held) k) (λ r. rw (m, r) refl) (λ r. rw (m, r) refl))
 
 -- the cache list as it is left on a hit
 pub hit_settled : (keeping : Keeping) (found : Found) (at from n k a page : ℕ) (cache y : List ℕ) → found ≡ Held at → from ≡ moved_from keeping at n

@@ -62,12 +62,12 @@ module _ (keeping : Keeping) (k a p : ℕ) (held : List ℕ) (d : distinct held 
       (λ t. rw (t, erase_all_take a held) (let b : k ≤ length held = ltb-false _ _ t in simp (length-append, length-drop) (omega arith)))))
 
 -- a bundle comes with a load, and a request with at most one
-pub bundle_loads : (kind : Kind) → bit (is_bundled kind) ≤ bit (is_load kind)
+bundle_loads : (kind : Kind) → bit (is_bundled kind) ≤ bit (is_load kind)
 bundle_loads hit = omega arith
 bundle_loads load = omega arith
 bundle_loads bundled = omega arith
 
-pub loads_one : (kind : Kind) → bit (is_load kind) ≤ 1
+loads_one : (kind : Kind) → bit (is_load kind) ≤ 1
 loads_one hit = omega arith
 loads_one load = omega arith
 loads_one bundled = omega arith
@@ -117,20 +117,14 @@ module _ {keeping : Keeping} {k a : ℕ} {trace : List ℕ} {run : Run} {count :
 
   -- No refusal for the state: 8 is about the lent lists, 12 about the counter
 
-  pub stands_refusal : (evicted : List ℕ) (rest : ℕ) → run_refusal run count cache evicted false rest
-      ≡ refuse (ltb (length cache) k or ltb (length evicted) a) 8 (refuse (eqb (length trace) 4294967295) 12 rest)
+  pub stands_refusal : (evicted : List ℕ) → request_refusal run count cache evicted
+      ≡ refuse (ltb (length cache) k or ltb (length evicted) a) 8 (refuse (eqb (length trace) 4294967295) 12 0)
   unfolding run_refusal ◌or◌
-  stands_refusal evicted rest =
+  stands_refusal evicted =
       let w = well run count cache (rw k_is s.count_most) s.evictions_most s.loads_most s.once in
       let z : SizesRight run.k run.a =
       rw (k_is, a_is) s.sizes in
       sizes_taken run.k run.a z _ ∙ rw (w, s.record_is) refl
-
-  -- so none where the lists have room and the counter is not full
-  pub stands_accepts : (evicted : List ℕ) → k ≤ length cache → a ≤ length evicted → length trace < 4294967295 → request_refusal run count cache evicted ≡ 0
-  stands_accepts evicted room bundle_room more =
-      stands_refusal evicted 0
-      ∙ rw (le-ltb _ _ room, le-ltb _ _ bundle_room, ne_eqb (length trace) 4294967295 (λ e. absurd (omega arith)), or_none false false refl refl) refl
 
   -- An accepted request
 
@@ -236,7 +230,9 @@ pub calls_accepted : (keeping : Keeping) (k a : ℕ) (calls : List Call) (trace 
 calls_accepted keeping k a [] trace S s room r n = refl
 calls_accepted keeping k a (call ∷ calls) trace S s room r n =
     let b : a ≤ length call.evicted = leb-true _ _ (and_l _ _ r) in
-    let z = stands_accepts s call.evicted room b (omega arith) in
+    let z : request_refusal S.run S.count S.cache call.evicted ≡ 0 =
+    stands_refusal s call.evicted
+    ∙ rw (le-ltb _ _ room, le-ltb _ _ b, ne_eqb (length trace) 4294967295 (λ e. absurd (omega arith)), or_none false false refl refl) refl in
     let next = stands_accepted s call.evicted call.page z in
     let l : length (trace ++ (call.page ∷ [])) ≡ length trace + 1 = length-append trace (call.page ∷ []) in
     by_test

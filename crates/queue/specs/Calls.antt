@@ -4,11 +4,10 @@ use Rattle.std.specs.Prelude.{ℕ, Bool, false, not, List, ◌≡◌, eqb, leb, 
 use Rattle.lists.specs.Choice.{pick, ◌and◌, ◌or◌}
 use Rattle.lists.specs.Pages.{distinct}
 use Rattle.paging.specs.Front.{front_rule}
-use Rattle.paging.specs.Policy.{is_bundled, bundle_count_by, load_count_by}
+use Rattle.paging.specs.Policy.{bundle_count_by, load_count_by}
 use Rattle.paging.specs.Refusals.{full_counter, refuse, sizes_refusal, trace_refusal}
 use Rattle.paging.specs.declared.Keeping.{Keeping}
-use Rattle.queue.specs.Serving.{empty_run, kind_in, cache_served, evicted_served, reply_served}
-use Rattle.queue.specs.declared.Further.{Further}
+use Rattle.queue.specs.Serving.{empty_run, cache_served, evicted_served, reply_served}
 use Rattle.queue.specs.declared.Reply.{Reply}
 use Rattle.queue.specs.declared.Run.{Run}
 use Rattle.queue.specs.declared.Totals.{Totals}
@@ -30,68 +29,44 @@ run_refusal run count cache evicted ill rest =
     (refuse (eqb run.requests full_counter) 12
     rest)))
 
--- a request of oldest load has none of its own
+-- a request has none of its own
 abbrev pub request_refusal : Run → (count : ℕ) → (cache evicted : List ℕ) → ℕ
 request_refusal run count cache evicted = run_refusal run count cache evicted false 0
-
--- of a caller that refuses more (`Further`, src/lib.rt): a further reason for 9, and behind 12 the number of its refusal for a request that needs a bundle
-abbrev pub further_refusal : Further → Run → (count : ℕ) → (cache evicted : List ℕ) → (page : ℕ) → ℕ
-further_refusal further run count cache evicted page =
-    run_refusal run count cache evicted further.ill (refuse (is_bundled (kind_in run count cache page)) further.bundle 0)
-
-abbrev pub no_further : Further
-no_further = record { ill = false; bundle = 0 }
 
 abbrev pub refused : (number : ℕ) → Reply
 refused number = record { refusal = number; run = empty_run 0 0; count = 0; answer = 0 }
 
--- What a request answers, and the two lists after it, unless it is refused with this number, 0 for none. The bundle and the refusals are the same
--- however the list is kept
-
-abbrev pub reply_unless : (number : ℕ) → Keeping → Run → (count : ℕ) → (cache : List ℕ) → (page : ℕ) → Reply
-reply_unless number keeping run count cache page = pick (eqb number 0) (reply_served keeping run count cache page) (refused number)
-
-abbrev pub cache_unless : (number : ℕ) → Keeping → Run → (count : ℕ) → (cache : List ℕ) → (page : ℕ) → List ℕ
-cache_unless number keeping run count cache page = pick (eqb number 0) (cache_served keeping run count cache page) cache
-
-abbrev pub evicted_unless : (number : ℕ) → Run → (count : ℕ) → (cache evicted : List ℕ) → (page : ℕ) → List ℕ
-evicted_unless number run count cache evicted page = pick (eqb number 0) (evicted_served run count cache evicted page) evicted
-
--- with its own refusals alone
+-- What the call answers, and the two lists after it. The bundle and the refusals are the same however the list is kept
 
 abbrev pub reply_of : Keeping → Run → (count : ℕ) → (cache evicted : List ℕ) → (page : ℕ) → Reply
-reply_of keeping run count cache evicted page = reply_unless (request_refusal run count cache evicted) keeping run count cache page
+reply_of keeping run count cache evicted page =
+    pick (eqb (request_refusal run count cache evicted) 0)
+    (reply_served keeping run count cache page)
+    (refused (request_refusal run count cache evicted))
 
 abbrev pub cache_of : Keeping → Run → (count : ℕ) → (cache evicted : List ℕ) → (page : ℕ) → List ℕ
-cache_of keeping run count cache evicted page = cache_unless (request_refusal run count cache evicted) keeping run count cache page
+cache_of keeping run count cache evicted page =
+    pick (eqb (request_refusal run count cache evicted) 0) (cache_served keeping run count cache page) cache
 
 abbrev pub evicted_of : Run → (count : ℕ) → (cache evicted : List ℕ) → (page : ℕ) → List ℕ
-evicted_of run count cache evicted page = evicted_unless (request_refusal run count cache evicted) run count cache evicted page
+evicted_of run count cache evicted page =
+    pick (eqb (request_refusal run count cache evicted) 0) (evicted_served run count cache evicted page) evicted
 
 -- the promise of a request: its answer, and the two lists as it leaves them
-abbrev pub AnsweredUnless : (number : ℕ) → Keeping → Run → (count : ℕ) → (cache evicted : List ℕ) → (page : ℕ) → Reply → (cache_left evicted_left : List ℕ) → Type 0
-AnsweredUnless number keeping run count cache evicted page reply cache_left evicted_left =
-    (reply ≡ reply_unless number keeping run count cache page)
-    × ((cache_left ≡ cache_unless number keeping run count cache page) × (evicted_left ≡ evicted_unless number run count cache evicted page))
-
 abbrev pub Answered : Keeping → Run → (count : ℕ) → (cache evicted : List ℕ) → (page : ℕ) → Reply → (cache_left evicted_left : List ℕ) → Type 0
 Answered keeping run count cache evicted page reply cache_left evicted_left =
-    AnsweredUnless (request_refusal run count cache evicted) keeping run count cache evicted page reply cache_left evicted_left
+    (reply ≡ reply_of keeping run count cache evicted page)
+    × ((cache_left ≡ cache_of keeping run count cache evicted page) × (evicted_left ≡ evicted_of run count cache evicted page))
 
 -- that of a preview (document 02, request 05): "the answer and the evicted list are those of serving the request on a copy of the state, refusals
 -- included". The record is the caller's own, and the cache list is only looked at
-abbrev pub PreviewedUnless : (number : ℕ) → Keeping → Run → (count : ℕ) → (cache evicted : List ℕ) → (page : ℕ) → Reply → (evicted_left : List ℕ) → Type 0
-PreviewedUnless number keeping run count cache evicted page reply evicted_left =
-    (reply ≡ reply_unless number keeping run count cache page) × (evicted_left ≡ evicted_unless number run count cache evicted page)
-
 abbrev pub PreviewedBy : Keeping → Run → (count : ℕ) → (cache evicted : List ℕ) → (page : ℕ) → Reply → (evicted_left : List ℕ) → Type 0
 PreviewedBy keeping run count cache evicted page reply evicted_left =
-    PreviewedUnless (request_refusal run count cache evicted) keeping run count cache evicted page reply evicted_left
+    (reply ≡ reply_of keeping run count cache evicted page) × (evicted_left ≡ evicted_of run count cache evicted page)
 
 -- at once for either way of keeping the list
-abbrev pub Previewed : (number : ℕ) → Run → (count : ℕ) → (cache evicted : List ℕ) → (page : ℕ) → Reply → (evicted_left : List ℕ) → Type 0
-Previewed number run count cache evicted page reply evicted_left =
-    (keeping : Keeping) → PreviewedUnless number keeping run count cache evicted page reply evicted_left
+abbrev pub Previewed : Run → (count : ℕ) → (cache evicted : List ℕ) → (page : ℕ) → Reply → (evicted_left : List ℕ) → Type 0
+Previewed run count cache evicted page reply evicted_left = (keeping : Keeping) → PreviewedBy keeping run count cache evicted page reply evicted_left
 
 -- Over a whole trace, from the empty buffer
 

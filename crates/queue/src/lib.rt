@@ -2,7 +2,7 @@
 // lent lists; and over a whole trace. How the list is kept makes the policy: by request it is least recent use (document 01, "LRU"; the crate
 // lru), by load it is oldest load first (document 02, request 01; the crate fifo).
 ghost use Rattle.std.specs.Prelude.{◌≤◌, ◌≡◌, length, take};
-ghost use Rattle.queue.specs.Calls.{well_formed, run_refusal, further_refusal, no_further, refused, AnsweredUnless, Previewed, totals_of};
+ghost use Rattle.queue.specs.Calls.{well_formed, run_refusal, refused, reply_of, cache_of, evicted_of, Previewed, totals_of};
 ghost use Rattle.queue.specs.Serving.{empty_run};
 ghost use Rattle.queue.specs.inner.Cases.{found_in};
 
@@ -52,41 +52,21 @@ pub struct Reply {
     pub answer: u32,
 }
 
-// What a caller refuses beside what every request is refused for. `ill` is a further reason for 9; and behind 12 a request that needs a bundle is
-// refused with the number `bundle`, unless that is 0.
-#[derive(Clone, Copy)]
-pub struct Further {
-    pub ill: bool,
-    pub bundle: u32,
-}
-
-impl Further {
-    // Nothing.
-    pub fn none() -> Further
-        ensures { result ≡ no_further }
-    {
-        Further {
-            ill: false,
-            bundle: 0,
-        }
-    }
-}
-
 // One request. The cache list has its count beside it and is kept as said, the first page to go in front; the evicted list receives a bundle. The
 // request is told first, as a preview tells it, and then the page goes into the cache list.
 pub fn request(
     keeping: Keeping,
-    further: Further,
     run: Run,
     count: u32,
     cache: &mut [u32],
     evicted: &mut [u32],
     page: u32,
 ) -> Reply
-    ensures { AnsweredUnless (further_refusal further run count cache.old evicted.old page)
-        keeping run count cache.old evicted.old page result cache.new evicted.new }
+    ensures { (result ≡ reply_of keeping run count cache.old evicted.old page)
+        × ((cache.new ≡ cache_of keeping run count cache.old evicted.old page)
+        × (evicted.new ≡ evicted_of run count cache.old evicted.old page)) }
 {
-    let told = tell(further, run, count, cache, evicted, page);
+    let told = tell(run, count, cache, evicted, page);
     let reply = told.reply;
     if reply.refusal != 0 {
         return reply;
@@ -101,18 +81,10 @@ pub fn request(
 // What one request would answer and evict (document 02, request 05): the reply and the evicted list are those of `request` on a copy of the state,
 // for either way of keeping the list. Nothing is served, and a preview counts as no request: the reply has the copy's record and count, and whoever
 // hands these on has served by mistake.
-pub fn preview(
-    further: Further,
-    run: Run,
-    count: u32,
-    cache: &[u32],
-    evicted: &mut [u32],
-    page: u32,
-) -> Reply
-    ensures { Previewed (further_refusal further run count cache.now evicted.old page)
-        run count cache.now evicted.old page result evicted.new }
+pub fn preview(run: Run, count: u32, cache: &[u32], evicted: &mut [u32], page: u32) -> Reply
+    ensures { Previewed run count cache.now evicted.old page result evicted.new }
 {
-    let told = tell(further, run, count, cache, evicted, page);
+    let told = tell(run, count, cache, evicted, page);
     told.reply
 }
 
@@ -125,19 +97,11 @@ struct Told {
 
 // All of a request but for the cache list: the refusals, what it finds, the bundle in the evicted list and the reply. One for request and preview, so
 // that the check, which takes most of the time of either, is there once.
-fn tell(
-    further: Further,
-    run: Run,
-    count: u32,
-    cache: &[u32],
-    evicted: &mut [u32],
-    page: u32,
-) -> Told
-    ensures { Previewed (further_refusal further run count cache.now evicted.old page)
-        run count cache.now evicted.old page result.reply evicted.new
+fn tell(run: Run, count: u32, cache: &[u32], evicted: &mut [u32], page: u32) -> Told
+    ensures { Previewed run count cache.now evicted.old page result.reply evicted.new
         × (result.reply.refusal ≡ 0 → result.found ≡ found_in run.k page (take count cache.now)) }
 {
-    let number = refusal(run, count, cache, evicted, further.ill);
+    let number = refusal(run, count, cache, evicted, false);
     if number != 0 {
         return Told {
             reply: refused(number),
@@ -147,13 +111,6 @@ fn tell(
     let k = run.k as usize;
     let a = run.a as usize;
     let found = serving::decide(k, &cache[..count as usize], page);
-    let barred = serving::barred(found, further.bundle);
-    if barred != 0 {
-        return Told {
-            reply: refused(barred),
-            found: Found::Room,
-        };
-    }
     serving::evict(found, a, cache, evicted);
     let reply = serving::answered(found, run, count);
     Told { reply, found }

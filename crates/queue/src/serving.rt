@@ -4,7 +4,7 @@ ghost use Rattle.std.specs.Prelude.{◌-◌, ◌≤◌, ◌<◌, ◌≡◌, leng
 ghost use Rattle.lists.specs.Places.{moved_to_end, laid};
 ghost use Rattle.queue.specs.Serving.{counted_run, cache_served, evicted_served, reply_served};
 ghost use Rattle.queue.specs.Standing.{run_over};
-ghost use Rattle.queue.specs.inner.Cases.{found_in, barred_for, loaded, reply_for, evicted_for, moved_from, cache_for};
+ghost use Rattle.queue.specs.inner.Cases.{found_in, loaded, reply_for, evicted_for, moved_from, cache_for};
 ghost use Rattle.queue.specs.inner.Ready.{RequestReady, AnswerReady, SettleReady, CountersFit, TraceReady};
 
 use crate::{Reply, Run};
@@ -104,17 +104,6 @@ pub(crate) fn decide(k: usize, held: &[u32], page: u32) -> Found
         return Found::Room;
     }
     Found::Full
-}
-
-// The number that refuses the request, where the caller has one for a request that needs a bundle.
-pub(crate) fn barred(found: Found, number: u32) -> u32
-    ensures { result ≡ barred_for found number }
-{
-    match found {
-        Found::Held(_) => 0,
-        Found::Room => 0,
-        Found::Full => number,
-    }
 }
 
 // What the request answers.

@@ -9,20 +9,18 @@ returns : tie.Need-returns
 returns c =
     let start = c.before.before.before.before.before.before.before.before.before.before in
     let keeping = start.args.keeping in
-    let further = start.args.further in
     let run = start.args.run in
     let count = start.args.count in
     let cache = start.args.cache.now in
     let evicted = start.args.evicted.now in
     let page = start.args.page in
     let tell = c.before.before.before.before.before.tell in
-    request_refused further run count cache evicted page keeping _ _ tell.ensures.0 c.if1.true
+    request_refused run count cache evicted page keeping _ _ tell.ensures.0 c.if1.true
 
 settle-requires : tie.Need-settle-requires
 settle-requires c κs =
     let start = c.before.before.before.before.before.before.before.before.before.before.before.before.before in
     let keeping = start.args.keeping in
-    let further = start.args.further in
     let run = start.args.run in
     let count = start.args.count in
     let cache = start.args.cache.now in
@@ -30,14 +28,13 @@ settle-requires c κs =
     let page = start.args.page in
     let tell = c.before.before.before.before.before.before.before.before.tell in
     let if1 = c.before.before.before.if1 in
-    let ready = request_ready further run count cache evicted page keeping _ _ tell.ensures.0 if1.false in
+    let ready = request_ready run count cache evicted page keeping _ _ tell.ensures.0 if1.false in
     can_settle run count cache evicted page ready _ (tell.ensures.1 if1.false)
 
 returns-2 : tie.Need-returns-2
 returns-2 c =
     let start = c.before.before.before.before.before.before.before.before.before.before.before.before.before.before.before.before in
     let keeping = start.args.keeping in
-    let further = start.args.further in
     let run = start.args.run in
     let count = start.args.count in
     let cache = start.args.cache.now in
@@ -46,7 +43,7 @@ returns-2 c =
     let tell = c.before.before.before.before.before.before.before.before.before.before.before.tell in
     let if1 = c.before.before.before.before.before.before.if1 in
     let settle = c.before.before.settle in
-    request_settled further run count cache evicted page keeping _ _ tell.ensures.0 _ _ if1.false (tell.ensures.1 if1.false) settle.ensures
+    request_settled run count cache evicted page keeping _ _ tell.ensures.0 _ _ if1.false (tell.ensures.1 if1.false) settle.ensures
 
 pub request-spec : {M : Type 1} → statement M
 request-spec =

@@ -25,12 +25,6 @@ reply_for (Held at) run count = record { refusal = 0; run = counted_run run 0 0;
 reply_for Room run count = record { refusal = 0; run = counted_run run 1 0; count = count + 1; answer = 1 }
 reply_for Full run count = record { refusal = 0; run = counted_run run 1 1; count = count - run.a + 1; answer = 2 }
 
--- the number that refuses it, where the caller has one for a request that needs a bundle
-abbrev pub barred_for : Found → (number : ℕ) → ℕ
-barred_for (Held at) number = 0
-barred_for Room number = 0
-barred_for Full number = number
-
 abbrev pub evicted_for : Found → (a : ℕ) → (cache evicted : List ℕ) → List ℕ
 evicted_for (Held at) a cache evicted = evicted
 evicted_for Room a cache evicted = evicted

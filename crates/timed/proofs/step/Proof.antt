@@ -6,9 +6,9 @@ use Rattle.timed.proofs.step.Tie as tie
 
 lift-higher-requires : tie.Need-lift-higher-requires
 lift-higher-requires c κs =
-    let after_other = c.before.before.before in
-    let other = after_other.if2.false in
-    let after-inside = after_other.before.before in
+    let after-other = c.before.before.before in
+    let other = after-other.if2.false in
+    let after-inside = after-other.before.before in
     let inside = after-inside.if1.true in
     let start = after-inside.before.before.before.before in
     let args = start.args in

@@ -1,69 +1,28 @@
-use mathlib.Core.Path.{ap, ◌∙◌}
+-- `lru_request` meets its contract: the fields of the answer are stored, and lent lists are as the call leaves them.
 use Rattle.exports.proofs.Stored.{stored}
-use Rattle.exports.specs.Fields.{lru_reply_fields}
-use Rattle.least_recent.specs.Calls.{lru_reply_of, lru_cache_of, lru_evicted_of}
-use Rattle.least_recent.specs.declared.LruRun.{LruRun}
+use Rattle.exports.specs.Fields.{queue_reply_fields}
 use borrow.Author.Rules.{rules}
 use Rattle.exports.proofs.lru_calls.lru_request.Statement.{statement}
 use Rattle.exports.proofs.lru_calls.lru_request.Tie as tie
-use Rattle.exports.proofs.lru_calls.lru_request.Reads as reads
-use Rattle.exports.proofs.lru_calls.lru_request.Lts as lts
-use Rattle.exports.proofs.lru_calls.record_of.Reads as record-of-reads
-use Rattle.exports.proofs.lru_calls.reply_fields.Reads as reply-fields-reads
-use Rattle.exports.proofs.store.fields.Reads as fields-reads
-use Rattle.least_recent.proofs.request.Reads as request-reads
 
--- src/lru_calls.rt:38:9
-record-of-requires : tie.Need-record-of-requires
-record-of-requires c κs = search rules
-
--- src/lru_calls.rt:39:28
-request-requires : tie.Need-request-requires
-request-requires c κs = search rules
-
--- src/lru_calls.rt:39:15
-reply-fields-requires : tie.Need-reply-fields-requires
-reply-fields-requires c κs = search rules
-
--- src/lru_calls.rt:40:19
-slice-aggregate-fields : tie.Need-slice-aggregate-fields
-slice-aggregate-fields c = search rules
-
--- src/lru_calls.rt:40:5
-fields-requires : tie.Need-fields-requires
-fields-requires c κs = search rules
-
--- src/lru_calls.rt:19:1
-same_length : tie.Need-same-length
-same_length c = search rules
-
--- src/lru_calls.rt:19:1
-same-length-2 : tie.Need-same-length-2
-same-length-2 c = search rules
-
--- src/lru_calls.rt:19:1
-same-length-3 : tie.Need-same-length-3
-same-length-3 c = search rules
-
--- src/lru_calls.rt:19:1
 returns : tie.Need-returns
-returns c = (
-  stored lru_reply_fields c.before.before.before.before.before.before.before.before.before.before.before.before.before.before.before.before.before.args.out.now c.before.before.fields.ensures c.before.before.before.before.before.reply-fields.ensures
-      (c.before.before.before.before.before.before.before.before.before.before.request.ensures.0 ∙ ap (λ (x : LruRun). lru_reply_of x c.before.before.before.before.before.before.before.before.before.before.before.before.before.before.before.before.before.args.count c.before.before.before.before.before.before.before.before.before.before.before.before.before.before.before.before.before.args.cache.now c.before.before.before.before.before.before.before.before.before.before.before.before.before.before.before.before.before.args.evicted.now c.before.before.before.before.before.before.before.before.before.before.before.before.before.before.before.before.before.args.page) c.before.before.before.before.before.before.before.before.before.before.before.before.before.record_of.ensures),
-  c.before.before.before.before.before.before.before.before.before.before.request.ensures.1.0 ∙ ap (λ (x : LruRun). lru_cache_of x c.before.before.before.before.before.before.before.before.before.before.before.before.before.before.before.before.before.args.count c.before.before.before.before.before.before.before.before.before.before.before.before.before.before.before.before.before.args.cache.now c.before.before.before.before.before.before.before.before.before.before.before.before.before.before.before.before.before.args.evicted.now c.before.before.before.before.before.before.before.before.before.before.before.before.before.before.before.before.before.args.page) c.before.before.before.before.before.before.before.before.before.before.before.before.before.record_of.ensures,
-  c.before.before.before.before.before.before.before.before.before.before.request.ensures.1.1 ∙ ap (λ (x : LruRun). lru_evicted_of x c.before.before.before.before.before.before.before.before.before.before.before.before.before.before.before.before.before.args.count c.before.before.before.before.before.before.before.before.before.before.before.before.before.before.before.before.before.args.cache.now c.before.before.before.before.before.before.before.before.before.before.before.before.before.before.before.before.before.args.evicted.now c.before.before.before.before.before.before.before.before.before.before.before.before.before.before.before.before.before.args.page) c.before.before.before.before.before.before.before.before.before.before.before.before.before.record_of.ensures,
-)
+returns c =
+    let start = c.before.before.before.before.before.before.before.before.before.before.before.before.before.before.before.before in
+    let call = c.before.before.before.before.before.before.before.before.before.before.request in (
+      stored queue_reply_fields start.args.out.now c.before.before.fields.ensures c.before.before.before.before.before.reply-fields.ensures call.ensures.0,
+      call.ensures.1.0,
+      call.ensures.1.1,
+    )
 
 pub lru-request-spec : {M : Type 1} → statement M
 lru-request-spec =
     tie.close
     (tie.spec
-    record-of-requires
-    request-requires
-    reply-fields-requires
-    slice-aggregate-fields
-    fields-requires
-    same_length
-    same-length-2
-    same-length-3
+    (λ c κs. search rules)
+    (λ c κs. search rules)
+    (λ c. search rules)
+    (λ c κs. search rules)
+    (λ c. search rules)
+    (λ c. search rules)
+    (λ c. search rules)
     returns)

@@ -1,9 +1,9 @@
--- `fifo_preview` meets its contract: the fields of the answer are stored, and the evicted list is as the call leaves it.
+-- `lru_preview` meets its contract: the fields of the answer are stored, and the evicted list is as the call leaves it.
 use Rattle.exports.proofs.Stored.{stored}
 use Rattle.exports.specs.Fields.{queue_reply_fields}
 use borrow.Author.Rules.{rules}
-use Rattle.exports.proofs.fifo_calls.fifo_preview.Statement.{statement}
-use Rattle.exports.proofs.fifo_calls.fifo_preview.Tie as tie
+use Rattle.exports.proofs.preview_calls.lru_preview.Statement.{statement}
+use Rattle.exports.proofs.preview_calls.lru_preview.Tie as tie
 
 returns : tie.Need-returns
 returns c =
@@ -13,8 +13,8 @@ returns c =
       call.ensures.1,
     )
 
-pub fifo-preview-spec : {M : Type 1} → statement M
-fifo-preview-spec =
+pub lru-preview-spec : {M : Type 1} → statement M
+lru-preview-spec =
     tie.close
     (tie.spec
     (λ c κs. search rules)

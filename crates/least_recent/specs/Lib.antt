@@ -1,5 +1,0 @@
-pub mod Calls
-pub mod Lists
-pub mod Pending
-pub mod Previews
-pub mod inner

@@ -1,2 +1,0 @@
--- Contracts between the functions of this crate: nothing here has to be believed.
-pub mod Flags
