@@ -1,5 +1,7 @@
 // The bench (document 01, "The eight-request shift"): reads a trace on standard input and prints six lines, or `refused` and a number.
 // All that matters is in the crate `report`.
+#![tactic(auto)]
+
 use report::Report;
 use streams::Output;
 

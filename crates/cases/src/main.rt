@@ -1,5 +1,7 @@
 // Document 01's "other cases", and the places where its text is clear and code goes wrong easily: each a row of the file `stdin`, whose head
 // tells how rows are written. Their answers, in the file `stdout`, were worked out by hand.
+#![tactic(auto)]
+
 use cases_rows::row::{Numbers, Row};
 use cases_rows::{row, show, text};
 

@@ -2,6 +2,8 @@
 //   traces      whole traces
 //   requests    single requests and questions
 //   marking     marking with priorities RDM
+#![tactic(auto)]
+
 use cases_rows::row::Numbers;
 use cases_rows::show;
 

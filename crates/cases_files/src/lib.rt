@@ -2,6 +2,8 @@
 //   bytes          lists of numbers as bytes
 //   records_read   the readers of records, and of a whole trace
 //   writing        the writers of records
+#![tactic(auto)]
+
 use cases_rows::row::Numbers;
 use cases_rows::show;
 use editions::Converted;

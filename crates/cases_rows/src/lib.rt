@@ -2,6 +2,8 @@
 //   text    numbers and lists of a row
 //   row     a row read into lent lists
 //   show    answers
+#![tactic(auto)]
+
 pub mod row;
 pub mod show;
 pub mod text;

@@ -1,5 +1,7 @@
 // Inner: from record to record and from request to request through a trace's file that was found good (document 02, request 03). A run is not written out:
 // its rest is a number beside its page, and reading on inside it looks at no byte of the file.
+#![tactic(auto)]
+
 ghost use Rattle.std.specs.Prelude.{◌<◌, [], ◌∷◌, ◌≡◌, length};
 ghost use Rattle.reading.specs.Files.{before, requests_from};
 ghost use Rattle.cursor.specs.Cursor.{Begun, requests_left};

@@ -5,6 +5,8 @@
 //   old_edition  an RQ for each request
 //   new_edition  a record for each longest run
 //   program      the two calls as the programs `to_old` and `to_new` make them
+#![tactic(auto)]
+
 ghost use Rattle.std.specs.Prelude.{◌≡◌};
 ghost use Rattle.traces.specs.Traces.{trace_file};
 ghost use Rattle.editions.specs.Calls.{library_requests, refused_with, converted_of, bytes_after};

@@ -26,8 +26,8 @@ impl Program {
 pub fn to_old(input: &[u8], out: &mut [u8]) -> Converted
     ensures value { (result ≡ converted_of old_bytes (trace_file program_requests input.now) out.old)
         × (out.new ≡ bytes_after old_bytes (trace_file program_requests input.now) out.old) }
-    ensures* fact { do ⌜ ReadEnough (← (⟦Program::INPUT⟧).entry) old_bytes input.now out.old out.new result ⌝ }
-    ensures* fact_2 { do ⌜ RoomEnough (← (⟦Program::OUTPUT⟧).entry) input.now out.old result ⌝ }
+    ensures read_enough { ReadEnough Program.INPUT old_bytes input.now out.old out.new result }
+    ensures room_enough { RoomEnough Program.OUTPUT input.now out.old result }
     ensures output_inside { OutputInside result out.new }
 {
     old_edition::within(input, Program::LONGEST, out)
@@ -37,8 +37,8 @@ pub fn to_old(input: &[u8], out: &mut [u8]) -> Converted
 pub fn to_new(input: &[u8], out: &mut [u8]) -> Converted
     ensures value { (result ≡ converted_of new_bytes (trace_file program_requests input.now) out.old)
         × (out.new ≡ bytes_after new_bytes (trace_file program_requests input.now) out.old) }
-    ensures* fact { do ⌜ ReadEnough (← (⟦Program::INPUT⟧).entry) new_bytes input.now out.old out.new result ⌝ }
-    ensures* fact_2 { do ⌜ RoomEnough (← (⟦Program::OUTPUT⟧).entry) input.now out.old result ⌝ }
+    ensures read_enough { ReadEnough Program.INPUT new_bytes input.now out.old out.new result }
+    ensures room_enough { RoomEnough Program.OUTPUT input.now out.old result }
     ensures output_inside { OutputInside result out.new }
 {
     new_edition::within(input, Program::LONGEST, out)

@@ -14,6 +14,8 @@
 //   trace_calls   a trace file read whole
 //   edition_calls a trace file turned into the old or the new edition
 //   writer_calls  a record into lent bytes
+#![tactic(auto)]
+
 mod edition_calls;
 mod fifo_calls;
 mod layers_calls;

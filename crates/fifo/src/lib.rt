@@ -1,5 +1,7 @@
 // Oldest load first (document 02, request 01): one request at a time and over a whole trace. The cache list runs from the oldest load to the
 // newest, and a hit moves no page.
+#![tactic(auto)]
+
 ghost use Rattle.std.specs.Prelude.{◌≡◌};
 ghost use Rattle.paging.specs.declared.Keeping.TheVariants.{ByLoad};
 ghost use Rattle.queue.specs.Calls.{reply_of, cache_of, evicted_of, totals_of};

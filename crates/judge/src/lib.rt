@@ -6,6 +6,8 @@
 //   many      more PFs at one request than a buffer holds
 //   run       all records of the schedule
 //   files     both files, from their first bytes on
+#![tactic(auto)]
+
 ghost use Rattle.std.specs.Prelude.{◌≡◌};
 ghost use Rattle.judging.specs.Answer.{answer_number};
 ghost use Rattle.judging.specs.Files.{judged};

@@ -1,5 +1,7 @@
 // The layers of document 01 ("Layers", "Possible set"; source document 001, Figure 1), one request at a time on a record by value and a lent
 // table of two lists, with the questions on them, and over a whole trace. The definitions are in specs/.
+#![tactic(auto)]
+
 ghost use Rattle.std.specs.Prelude.{◌≤◌, ◌≡◌};
 ghost use Rattle.table.specs.Serving.{rule_of};
 ghost use Rattle.layers.specs.Calls.{empty_run, state_refusal, run_counted, reply_by, request_reply, pages_next, numbers_next, refused};

@@ -1,5 +1,7 @@
 // Least recent use (document 01, "LRU"): one request at a time and over a whole trace. The cache list runs from the least to the most recently
 // requested page, and a hit makes its page the most recent.
+#![tactic(auto)]
+
 ghost use Rattle.std.specs.Prelude.{◌≡◌};
 ghost use Rattle.paging.specs.declared.Keeping.TheVariants.{ByRequest};
 ghost use Rattle.queue.specs.Calls.{reply_of, cache_of, evicted_of, totals_of};

@@ -1,5 +1,7 @@
 // The cached pages that leave together: a bundle, taken out of three lists beside each other, which have the cached pages by page rising, their marks and
 // their priorities. An inner crate: other crates call it.
+#![tactic(auto)]
+
 ghost use Rattle.leaving.specs.Buffer.{BundleReady, BundleLeft};
 
 mod places;

@@ -1,5 +1,7 @@
 // Lists of pages: the vocabulary that the code and the theory share is in specs/, here are questions on
 // lent lists, and in moves.rt what changes them.
+#![tactic(auto)]
+
 ghost use Rattle.std.specs.Prelude.{◌+◌, ◌≤◌, ◌≡◌, length, drop};
 ghost use Rattle.lists.specs.Pages.{mem};
 ghost use Rattle.lists.specs.Places.{place};

@@ -1,5 +1,7 @@
 // Marking with priorities RDM beside the layers (document 02, request 09; source document 001, Algorithm 1), one request at a time on a record by value and
 // seven lent lists, and over a whole trace. The definitions are in specs/, the model behind them in the crate marking.
+#![tactic(auto)]
+
 ghost use Rattle.std.specs.Prelude.{◌≡◌};
 ghost use Rattle.mark.specs.Calls.{empty_run, refused, Answered};
 ghost use Rattle.mark.specs.Lent.{lent};

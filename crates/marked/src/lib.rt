@@ -1,5 +1,7 @@
 // One request served on the buffer of marked pages: three lent lists beside each other, which have the cached pages by page rising, their marks and their
 // priorities. No check here: whoever calls keeps the state ready, for which `rises` and `marks_formed` are questions.
+#![tactic(auto)]
+
 ghost use Rattle.std.specs.Prelude.{◌≤◌, ◌≡◌, length, replicate};
 ghost use Rattle.lists.specs.Choice.{pick};
 ghost use Rattle.marking.specs.Lists.{rising, all_marks};

@@ -1,4 +1,6 @@
 // Farthest next use over a lent trace, and the schedule that it writes (document 01, "MIN").
+#![tactic(auto)]
+
 ghost use Rattle.std.specs.Prelude.{◌≡◌};
 ghost use Rattle.min.specs.Calls.{counts_of, scheduled_of, bytes_of};
 

@@ -1,4 +1,6 @@
 // How near each page's next request is, for all requests of a trace: in linear time, whatever its pages are.
+#![tactic(auto)]
+
 ghost use Rattle.std.specs.Prelude.{◌≤◌, ◌+◌, ◌≡◌, length, take};
 ghost use Rattle.paging.specs.Refusals.{longest_trace};
 ghost use Rattle.next_use.specs.Chains.{told_of, Chained, LeftsFilled, Tables, Unchained, Walkable};

@@ -1,5 +1,7 @@
 // The sizes of document 01 ("Sizes") with refusals 1 and 2, which every call that has a k and an a judges first, and 3.
 // The model itself, traces, LRU, MIN, layers and schedules, is in specs/.
+#![tactic(auto)]
+
 ghost use Rattle.std.specs.Prelude.{◌≡◌};
 ghost use Rattle.paging.specs.Refusals.{sizes_refusal, trace_refusal};
 

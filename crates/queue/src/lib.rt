@@ -1,6 +1,8 @@
 // A buffer kept as a list that pages leave from the front: the call that a tracker makes, one request at a time, on a run record by value and two
 // lent lists; and over a whole trace. How the list is kept makes the policy: by request it is least recent use (document 01, "LRU"; the crate
 // lru), by load it is oldest load first (document 02, request 01; the crate fifo).
+#![tactic(auto)]
+
 ghost use Rattle.std.specs.Prelude.{◌≤◌, ◌≡◌, length, take};
 ghost use Rattle.queue.specs.Calls.{well_formed, run_refusal, refused, reply_of, cache_of, evicted_of, Previewed, totals_of};
 ghost use Rattle.queue.specs.Serving.{empty_run};

@@ -1,5 +1,7 @@
 // The rank of a page for marking: the time and t0 of a requested page, the priority that it gets, and which of two cached pages leaves first. An inner
 // crate: other crates call it.
+#![tactic(auto)]
+
 ghost use Rattle.std.specs.Prelude.{◌+◌, ◌*◌, ◌-◌, ◌≤◌, ◌<◌, ◌≡◌, leb, ltb, length, get_or};
 ghost use Rattle.lists.specs.Choice.{pick, ◌and◌};
 ghost use Rattle.paging.specs.Refusals.{full_counter};

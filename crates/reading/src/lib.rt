@@ -1,5 +1,7 @@
 // The readers (document 01, "Files"): what stands at an offset of a file. Refusals in their order: 9, 4, 5, then 1 and 2 for a KA, 13 for an RR (document
 // 02, request 03), 6 for an EV and 5 for its pages.
+#![tactic(auto)]
+
 ghost use Rattle.std.specs.Prelude.{◌*◌, ◌≤◌, ◌≡◌, length, take, drop};
 ghost use Rattle.paging.specs.Refusals.{largest_k};
 ghost use Rattle.records.specs.Answers.{kind_mark};

@@ -6,6 +6,8 @@
 //   put     below the writers: a record at the start of the rest of the lent bytes
 // Whoever writes a file calls `write`. The other three are inner: only crates of this repository call them. `kind` refuses by number itself; whoever calls
 // `length` or `put` has judged 6, 13, 8 and 9 before.
+#![tactic(auto)]
+
 pub mod kind;
 pub mod length;
 pub mod put;

@@ -3,6 +3,8 @@
 //   marks    repeats looked for with a mark for each slot
 //   chains   repeats looked for in chains of places that share a slot
 //   bits     two bits for each page, for very many pages
+#![tactic(auto)]
+
 ghost use Rattle.std.specs.Prelude.{◌≡◌};
 ghost use Rattle.lists.specs.Pages.{distinct};
 

@@ -1,4 +1,6 @@
 // The bench's figures for an input (document 01, "The eight-request shift"): one function on the input's bytes.
+#![tactic(auto)]
+
 ghost use Rattle.std.specs.Prelude.{◌≡◌};
 ghost use Rattle.report.specs.Calls.{report_of, refused_report, ReadEnough};
 
@@ -72,7 +74,7 @@ impl Report {
 // What the bench says of a trace file. An input that has `INPUT` bytes need not be read further: whatever follows, the report is the same.
 pub fn of_input(input: &[u8]) -> Report
     ensures value { result ≡ report_of input.now }
-    ensures* fact { do ⌜ ReadEnough (← (⟦Report::INPUT⟧).entry) input.now result ⌝ }
+    ensures read_enough { ReadEnough Report.INPUT input.now result }
 {
     let mut pages = [0u32; Report::LONGEST];
     let told = traces::fill(input, &mut pages);

@@ -1,5 +1,7 @@
 // The standard input and output of a program. Where the system fails, a line on standard error says so, the input is not taken for whole, and
 // nothing more is written. No contract can say what is read or written: what a program prints is tested.
+#![tactic(auto)]
+
 ghost use Rattle.std.specs.Prelude.{true, false, ◌≡◌};
 ghost use Rattle.io.specs.Counts.{IsPrefixLen};
 

@@ -1,5 +1,7 @@
 // A request served on the layers' table with a third list beside it: t0 of each page that has a row. The table is in order, and the place of the
 // requested page in it is known. An inner crate: other crates call it.
+#![tactic(auto)]
+
 ghost use Rattle.timed.specs.Timed.{TimedReady, TimedTo};
 
 use table::Stepped;

@@ -1,5 +1,7 @@
 // Reads a trace file on standard input and prints its old edition (document 02, request 08): the raw bytes and nothing else, or `refused` and a number.
 // All that matters is in the crate `editions`.
+#![tactic(auto)]
+
 use editions::program;
 use editions::program::Program;
 use streams::Output;

@@ -1,6 +1,8 @@
 // Trace files read whole (document 01, "Files" and "Sizes"; document 02, request 03): the sizes, and the requests one by one, whether they stand in the
 // file as single records or as runs.
 // `count` tells how many requests a file has, `fill` the same with the requests in a lent list.
+#![tactic(auto)]
+
 ghost use Rattle.std.specs.Prelude.{◌≤◌, ◌++◌, ◌≡◌, length, drop};
 ghost use Rattle.reading.specs.Files.{requests_from};
 ghost use Rattle.traces.specs.Calls.{count_of, pages_after};

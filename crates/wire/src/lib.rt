@@ -1,5 +1,7 @@
 // Numbers of a file in bytes (document 01): 16 and 32 bits, the lowest byte first, read at an offset and written.
 // These are leaves: whoever calls one has tested that the bytes are there.
+#![tactic(auto)]
+
 ghost use Rattle.std.specs.Prelude.{◌+◌, ◌<◌, ◌≤◌, ◌≡◌, length, drop};
 ghost use Rattle.wire.specs.Numbers.{num16, num32, bytes16, bytes32, placed};
 

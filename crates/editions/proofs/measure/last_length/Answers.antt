@@ -1,0 +1,14 @@
+-- `last_length` meets its contract, by the three arms of its match.
+use borrow.Author.Tests.{ne_eqb}
+use Rattle.editions.proofs.measure.last_length.Goals as goal
+
+pub returns-in-0 : goal.returns-in-0
+returns-in-0 c = rw c.in-0.keys1
+
+pub returns-in-1 : goal.returns-in-1
+returns-in-1 c = rw c.in-0.keys2
+
+pub returns-in_default : goal.returns-in_default
+returns-in_default c =
+    let times = c.args.times in
+    rw (ne_eqb times 0 c.in-0.rest.0.1, ne_eqb times 1 c.in-0.rest.1)

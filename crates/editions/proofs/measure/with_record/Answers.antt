@@ -1,0 +1,38 @@
+-- `with_record` meets its contract: another page ends the last run, the same page makes it longer, or a full RR is put before what is left of it.
+use native.Mathlib.Omega.{arith}
+use borrow.Author.Rules.{rules}
+use Rattle.editions.proofs.MeasureLaws.{last_small, added_other, added_same, added_full}
+use Rattle.editions.proofs.measure.with_record.Goals as goal
+
+pub overflow_add-size : goal.overflow_add-size
+overflow_add-size c =
+    let size = c.requires.1 in
+    let small = last_small c.args.last.times c.last_length.result c.last_length.ensures in
+    omega arith
+
+pub returns-then-page-last : goal.returns-then-page-last
+returns-then-page-last c =
+    let more = c.last_length in
+    added_other c.args.last c.args.page c.args.times c.requires.2 c.requires.3 c.requires.0 c.if-page-last.true more.result
+    more.ensures
+
+pub overflow_add-all : goal.overflow_add-all
+overflow_add-all c =
+    let few = c.requires.3 in
+    let last-few = c.requires.0 in
+    omega arith
+
+pub overflow_add-result : goal.overflow_add-result
+overflow_add-result c =
+    let size = c.requires.1 in
+    omega arith
+
+pub returns-then-all-gt-LONGEST : goal.returns-then-all-gt-LONGEST
+returns-then-all-gt-LONGEST c =
+    let same = c.if-page-last.false in
+    added_full c.args.last c.args.page c.args.times c.requires.2 c.requires.3 c.requires.0 same c.if-all-gt-LONGEST.true
+
+pub returns : goal.returns
+returns c =
+    let same = c.if-page-last.false in
+    added_same c.args.last c.args.page c.args.times c.requires.2 c.requires.3 c.requires.0 same c.if-all-gt-LONGEST.false

@@ -1,0 +1,10 @@
+-- `program::to_new` meets its contract: the call with 4,096 requests; the bytes read and the room lent are enough.
+use borrow.Author.Rules.{rules}
+use Rattle.editions.specs.Editions.{new_bytes}
+use Rattle.editions.proofs.Programs.{new_is_short, program_promises}
+use Rattle.editions.proofs.program.to_new.Goals as goal
+
+pub returns : goal.returns
+returns c =
+    let within = c.within in
+    program_promises new_bytes new_is_short c.args.input.now c.args.out.now _ within.result within.ensures

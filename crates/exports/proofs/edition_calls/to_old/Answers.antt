@@ -1,0 +1,11 @@
+-- `to_old` meets its contract: the fields of the answer are stored, and lent lists are as the call leaves them.
+use Rattle.exports.proofs.Stored.{stored}
+use Rattle.exports.specs.Fields.{converted_fields}
+use borrow.Author.Rules.{rules}
+use Rattle.exports.proofs.edition_calls.to_old.Goals as goal
+
+pub returns : goal.returns
+returns c =
+    let call = c.to_old in
+    let fields = c.converted_fields-all in
+    (stored converted_fields c.args.out.now c.fields.ensures fields.ensures call.ensures.0, call.ensures.1)

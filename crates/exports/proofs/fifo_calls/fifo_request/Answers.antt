@@ -1,0 +1,13 @@
+-- `fifo_request` meets its contract: the fields of the answer are stored, and lent lists are as the call leaves them.
+use Rattle.exports.proofs.Stored.{stored}
+use Rattle.exports.specs.Fields.{queue_reply_fields}
+use borrow.Author.Rules.{rules}
+use Rattle.exports.proofs.fifo_calls.fifo_request.Goals as goal
+
+pub returns : goal.returns
+returns c =
+    let call = c.request in (
+      stored queue_reply_fields c.args.out.now c.fields.ensures c.reply_fields-all.ensures call.ensures.0,
+      call.ensures.1.0,
+      call.ensures.1.1,
+    )

@@ -1,0 +1,11 @@
+-- `possible_fields` meets its contract: each arm gives the fields of its case.
+use mathlib.Core.Path.{sym, ap}
+use Rattle.exports.specs.Cases.{possible_fields}
+use borrow.Author.Rules.{rules}
+use Rattle.exports.proofs.layers_calls.possible_fields.Goals as goal
+
+pub returns-in-Refused : goal.returns-in-Refused
+returns-in-Refused c = sym (ap possible_fields c.answer-1.given.1)
+
+pub returns-in-BrokenAt : goal.returns-in-BrokenAt
+returns-in-BrokenAt c = sym (ap possible_fields c.answer-in-BrokenAt-1.given.1)

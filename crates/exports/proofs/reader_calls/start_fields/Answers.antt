@@ -1,0 +1,11 @@
+-- `start_fields` meets its contract: each arm gives the fields of its case.
+use mathlib.Core.Path.{sym, ap}
+use Rattle.exports.specs.Cases.{start_fields}
+use borrow.Author.Rules.{rules}
+use Rattle.exports.proofs.reader_calls.start_fields.Goals as goal
+
+pub returns-in-Refused : goal.returns-in-Refused
+returns-in-Refused c = sym (ap start_fields c.start-1.given.1)
+
+pub returns-in-Sizes : goal.returns-in-Sizes
+returns-in-Sizes c = sym (ap start_fields c.start-in-Sizes-1.given.1)

@@ -1,0 +1,71 @@
+use Prim.Native.Nat.{◌+◌, ◌*◌, ◌-◌}
+use native.Mathlib.Omega.{arith}
+use mathlib.Core.Path.{◌≡◌, refl, ◌∙◌}
+use lib.ListN.{length}
+use borrow.Author.Rules.{rules}
+use Rattle.judge.specs.inner.Places.{Sound}
+use Rattle.judge.specs.inner.Verdicts.{place_answer}
+use Rattle.judge.proofs.RunLaws.{run_again, run_done}
+use Rattle.judge.proofs.run.run.Goals as goal
+
+pub loop-next-init : goal.loop-next-init
+loop-next-init c =
+    let pre = c.requires in
+    (pre.0, refl, refl)
+
+pub next_record-requires : goal.next_record-requires
+next_record-requires c =
+    let inv = c.loop-next.invariant in
+    let l = inv.1 in (inv.0, omega arith)
+
+pub loop-next-smaller : goal.loop-next-smaller
+loop-next-smaller c =
+    let a = c.args.a in
+    let k = c.args.k in
+    let requests = c.args.requests in
+    let schedule = c.args.schedule.now in
+    let trace = c.args.trace.now in
+    let place = c.loop-next.place in
+    let next-record = c.next_record in
+    let next = c.next-1 in
+    let d = (run_again k a requests trace schedule next-record.new.held place next.given.0.0 next-record.result _ next.given.1
+    next-record.ensures.0 next-record.ensures.1).1 in
+    let f = d.further in let i = d.sound.inside in omega arith
+
+pub loop-next-preserved : goal.loop-next-preserved
+loop-next-preserved c =
+    let a = c.args.a in
+    let k = c.args.k in
+    let requests = c.args.requests in
+    let schedule = c.args.schedule.now in
+    let trace = c.args.trace.now in
+    let turn = c.loop-next in
+    let inv = turn.invariant in
+    let place = turn.place in
+    let next-record = c.next_record in
+    let next = c.next-1 in
+    let d = run_again k a requests trace schedule next-record.new.held place next.given.0.0 next-record.result _ next.given.1
+    next-record.ensures.0 next-record.ensures.1 in
+    (d.1.sound, next-record.auto.held ∙ inv.1, d.0 ∙ inv.2)
+
+pub shape_of-held-in-Done : goal.shape_of-held-in-Done
+shape_of-held-in-Done c =
+    let inv = c.loop-next.invariant in
+    let next-record = c.next_record in
+    next-record.auto.held ∙ inv.1
+
+pub returns-in-Done : goal.returns-in-Done
+returns-in-Done c =
+    let a = c.args.a in
+    let k = c.args.k in
+    let requests = c.args.requests in
+    let schedule = c.args.schedule.now in
+    let trace = c.args.trace.now in
+    let turn = c.loop-next in
+    let inv = turn.invariant in
+    let place = turn.place in
+    let next-record = c.next_record in
+    let verdict = c.verdict-1 in
+    let d = run_done k a requests trace schedule next-record.new.held place verdict.given.0.0 next-record.result _ verdict.given.1
+    next-record.ensures.0 next-record.ensures.1 in
+    (d.0 ∙ inv.2, d.1)

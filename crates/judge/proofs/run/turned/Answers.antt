@@ -1,0 +1,10 @@
+use mathlib.Core.Path.{sym, ap}
+use borrow.Author.Rules.{rules}
+use Rattle.judge.specs.inner.Verdicts.{turn_of}
+use Rattle.judge.proofs.run.turned.Goals as goal
+
+pub returns-in-On : goal.returns-in-On
+returns-in-On c = sym (ap turn_of c.step-1.given.1)
+
+pub returns-in-Stop : goal.returns-in-Stop
+returns-in-Stop c = sym (ap turn_of c.step-in-Stop-1.given.1)

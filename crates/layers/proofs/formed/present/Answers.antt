@@ -1,0 +1,33 @@
+use Prim.Native.Nat.{◌≤◌}
+use native.Mathlib.Omega.{arith}
+use mathlib.Core.Path.{◌≡◌}
+use borrow.Author.Rules.{rules}
+use Rattle.layers.specs.inner.Sizes.{present_in}
+use Rattle.layers.proofs.Reading.{present_next, present_bad, present_end}
+use Rattle.layers.proofs.formed.present.Goals as goal
+
+pub returns-then-sizes-i-eq0 : goal.returns-then-sizes-i-eq0
+returns-then-sizes-i-eq0 c =
+    let s = c.args.s in
+    let sizes = c.args.sizes.now in
+    let turn = c.loop-i in
+    let i = turn.i in
+    let inv = turn.invariant in
+    let loop-test = c.loop-i-test in
+    present_bad s i sizes loop-test.true inv.1 c.if-sizes-i-eq0.true
+
+pub loop-i-preserved : goal.loop-i-preserved
+loop-i-preserved c =
+    let s = c.args.s in
+    let sizes = c.args.sizes.now in
+    let turn = c.loop-i in
+    let i = turn.i in
+    let inv = turn.invariant in
+    let loop-test = c.loop-i-test in
+    (omega arith, present_next s i sizes loop-test.true inv.1 c.if-sizes-i-eq0.false)
+
+pub returns : goal.returns
+returns c =
+    let s = c.args.s in
+    let sizes = c.args.sizes.now in
+    present_end s c.loop-i.i sizes c.loop-i-test.false c.loop-i.invariant.1

@@ -1,0 +1,13 @@
+use Prim.Native.Nat.{◌≤◌}
+use native.Mathlib.Omega.{arith}
+use mathlib.Core.Path.{◌≡◌}
+use borrow.Author.Rules.{rules}
+use Rattle.layers.specs.inner.Sizes.{single_in}
+use Rattle.layers.proofs.Reading.{single_next, single_bad, single_end}
+use Rattle.layers.proofs.formed.single_above.Given as goal
+
+abbrev pub invariant-loop-i : goal.invariant-loop-i
+invariant-loop-i l = (l.i ≤ l.s) × (single_in l.limit l.s l.sizes ≡ single_in l.limit l.i l.sizes)
+
+abbrev pub decreases-loop-i : goal.decreases-loop-i
+decreases-loop-i l = l.i

@@ -1,0 +1,15 @@
+use Prim.Native.Nat.{◌≤◌, ◌-◌}
+use native.Mathlib.Omega.{arith}
+use mathlib.Core.Path.{◌≡◌, ◌∙◌}
+use lib.Dec.{ltb}
+use lib.ListN.{length, take}
+use borrow.Author.Rules.{rules}
+use Rattle.lists.specs.Pages.{count}
+use Rattle.layers.proofs.Reading.{used_one, used_none, count_whole}
+use Rattle.layers.proofs.formed.used.Given as goal
+
+abbrev pub invariant-loop-i : goal.invariant-loop-i
+invariant-loop-i l = (l.i ≤ length l.numbers) × (l.n ≤ l.i) × (l.n ≡ count (λ m. ltb 0 m) (take l.i l.numbers))
+
+abbrev pub decreases-loop-i : goal.decreases-loop-i
+decreases-loop-i l = length l.numbers - l.i

@@ -1,0 +1,15 @@
+use Prim.Native.Nat.{◌-◌, ◌≤◌}
+use native.Mathlib.Omega.{arith}
+use mathlib.Core.Path.{◌≡◌, refl}
+use lib.ListN.{length, drop}
+use borrow.Author.Rules.{rules}
+use Rattle.paging.specs.Rows.{rows_of}
+use Rattle.layers.specs.Traces.{all_unused}
+use Rattle.layers.proofs.TraceLaws.{unused_next, unused_number, unused_page, unused_end}
+use Rattle.layers.proofs.trace.all_unused.Given as goal
+
+abbrev pub invariant-loop-i : goal.invariant-loop-i
+invariant-loop-i l = (l.i ≤ length l.pages) × (all_unused (rows_of l.numbers l.pages) ≡ all_unused (drop l.i (rows_of l.numbers l.pages)))
+
+abbrev pub decreases-loop-i : goal.decreases-loop-i
+decreases-loop-i l = length l.pages - l.i

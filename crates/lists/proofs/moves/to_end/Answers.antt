@@ -1,0 +1,22 @@
+use Prim.Native.Nat.{◌≤◌, ◌-◌}
+use native.Mathlib.Omega.{arith}
+use mathlib.Core.Path.{◌≡◌}
+use lib.ListN.{length, length-set}
+use borrow.Author.Rules.{rules}
+use Rattle.lists.specs.Places.{over}
+use Rattle.lists.proofs.Leaves.{gap, moved_none, gap_start, gap_turn, gap_closed}
+use Rattle.lists.proofs.moves.to_end.Goals as goal
+
+pub returns-then-at-n : goal.returns-then-at-n
+returns-then-at-n c = moved_none c.args.at c.args.pages.now (omega arith)
+
+pub loop-i-init : goal.loop-i-init
+loop-i-init c = ((omega arith, omega arith), (omega arith, gap_start _ _ (omega arith)))
+
+pub loop-i-preserved : goal.loop-i-preserved
+loop-i-preserved c =
+    let inv = c.loop-i.invariant in
+    ((omega arith, omega arith), (simp length-set (omega arith), gap_turn _ _ (omega arith) _ _ inv.1.1 (omega arith) (omega arith)))
+
+pub returns : goal.returns
+returns c = gap_closed _ _ (omega arith) _ _ c.loop-i.invariant.1.1 (omega arith) (omega arith)

@@ -1,0 +1,8 @@
+use mathlib.Core.Path.{refl}
+use borrow.Author.Rules.{rules}
+use Rattle.mark.proofs.refused.Goals as goal
+
+pub returns : goal.returns
+returns c =
+    let empty = c.empty in
+    rw empty.ensures refl

@@ -1,0 +1,16 @@
+use Prim.Native.Nat.{◌≤◌, ◌-◌}
+use native.Mathlib.Omega.{arith}
+use mathlib.Core.Bool.{not}
+use mathlib.Core.Path.{◌≡◌}
+use lib.ListN.{length, drop}
+use Rattle.lists.specs.Choice.{◌and◌}
+use Rattle.mark.specs.Formed.{times_formed}
+use Rattle.mark.proofs.Formed.{times_start, times_turn, times_end}
+use borrow.Author.Rules.{rules}
+use Rattle.mark.proofs.refusing.times_formed.Given as goal
+
+abbrev pub invariant-loop-i : goal.invariant-loop-i
+invariant-loop-i l = (l.i ≤ length l.times) × (times_formed l.t l.numbers l.times ≡ not l.bad and times_formed l.t (drop l.i l.numbers) (drop l.i l.times))
+
+abbrev pub decreases-loop-i : goal.decreases-loop-i
+decreases-loop-i l = length l.times - l.i

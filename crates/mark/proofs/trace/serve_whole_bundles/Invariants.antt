@@ -1,0 +1,17 @@
+use Prim.Native.Nat.{◌-◌}
+use native.Mathlib.Omega.{arith}
+use mathlib.Core.Path.{◌≡◌, refl, ◌∙◌}
+use lib.Dec.{eqb, ltb}
+use lib.ListN.{length}
+use Rattle.mark.specs.Traces.{table_with}
+use Rattle.mark.proofs.WholeBundles.{Unkept, unkept_begin, unkept_ready, unkept_full, unkept_next, unkept_end, bundles_fit, loads_fit}
+use borrow.Author.Rules.{rules}
+use Rattle.mark.proofs.trace.serve_whole_bundles.Given as goal
+
+abbrev pub invariant-loop-i : goal.invariant-loop-i
+invariant-loop-i l =
+    (length l.pages ≡ length l.initial.pages) × (length l.numbers ≡ length l.initial.numbers) × (length l.times ≡ length l.initial.times)
+    × Unkept l.k l.trace (length l.initial.pages) l.i l.bundles l.loads l.point (table_with l.pages l.numbers l.times)
+
+abbrev pub decreases-loop-i : goal.decreases-loop-i
+decreases-loop-i l = length l.trace - l.i

@@ -1,0 +1,15 @@
+-- `marked::places::fill_zero_wide` meets its contract: the first i places are zero, the others as they were.
+use Prim.Native.Nat.{◌≤◌, ◌-◌}
+use native.Mathlib.Omega.{arith}
+use mathlib.Core.Path.{◌≡◌}
+use lib.ListN.{length, replicate, length-set}
+use borrow.Author.Rules.{rules}
+use Rattle.lists.proofs.Leaves.{over_none, zero_turn, zero_done}
+use Rattle.lists.specs.Places.{over}
+use Rattle.marked.proofs.places.fill_zero_wide.Given as goal
+
+abbrev pub invariant-loop-i : goal.invariant-loop-i
+invariant-loop-i l = (l.i ≤ length l.initial.list) × ((length l.list ≡ length l.initial.list) × (l.list ≡ over (replicate (length l.initial.list) 0) l.initial.list l.i))
+
+abbrev pub decreases-loop-i : goal.decreases-loop-i
+decreases-loop-i l = length l.initial.list - l.i

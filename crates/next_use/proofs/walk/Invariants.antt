@@ -1,0 +1,15 @@
+use Prim.Native.Nat.{ℕ, suc, ◌≤◌, ◌-◌, ◌/◌}
+use native.Mathlib.Omega.{arith}
+use mathlib.Core.Path.{◌≡◌, refl, sym, ◌∙◌}
+use lib.ListN.{length, length-set}
+use borrow.Author.Rules.{rules}
+use Rattle.next_use.specs.Chains.{Walked, low, page_at}
+use Rattle.next_use.proofs.Chains.{walk_starts, walk_ends, last_le, last_low, next}
+use Rattle.next_use.proofs.walk.Given as goal
+
+abbrev pub invariant-loop-s : goal.invariant-loop-s
+invariant-loop-s l = (length l.seen ≡ length l.initial.seen) ×
+    ((length l.lefts ≡ length l.initial.lefts) × ((l.s ≤ length l.trace) × (((t : ℕ) → l.s ≡ suc t → low (page_at l.trace t) ≡ l.c) × Walked l.c l.s l.trace l.seen l.lefts)))
+
+abbrev pub decreases-loop-s : goal.decreases-loop-s
+decreases-loop-s l = l.s

@@ -1,0 +1,15 @@
+-- `records::put::list` meets its contract: after i turns the first i pages stand behind the fixed fields, and nothing else has changed.
+use Prim.Native.Nat.{◌≤◌, ◌-◌}
+use native.Mathlib.Omega.{arith}
+use mathlib.Core.Path.{◌≡◌, refl}
+use lib.ListN.{length, take}
+use borrow.Author.Rules.{rules}
+use Rattle.wire.specs.Numbers.{all_bytes32, placed}
+use Rattle.records.proofs.Writing.{none_placed, page_placed, all_placed}
+use Rattle.records.proofs.put.list.Given as goal
+
+abbrev pub invariant-loop-i : goal.invariant-loop-i
+invariant-loop-i l = (l.i ≤ length l.pages) × ((length l.rest ≡ length l.initial.rest) × (l.rest ≡ placed l.initial.rest 8 (all_bytes32 (take l.i l.pages))))
+
+abbrev pub decreases-loop-i : goal.decreases-loop-i
+decreases-loop-i l = length l.pages - l.i

@@ -1,0 +1,16 @@
+-- `lists::chains::chained_once` meets its contract: the pages before place i are repeat-free, and each is in its slot's chain.
+use Prim.Native.Nat.{◌≤◌, ◌-◌}
+use native.Mathlib.Omega.{arith}
+use mathlib.Core.Path.{◌≡◌, refl, sym, ◌∙◌}
+use lib.ListN.{length, get_or, length-set}
+use borrow.Author.Rules.{rules}
+use Rattle.repeats.proofs.ChainLaws.{Threaded, threaded_none, threaded_linked, found_twice, found_new, threaded_all}
+use Rattle.repeats.proofs.FreshLaws.{slot_le}
+use Rattle.repeats.proofs.chains.chained_once.Given as goal
+
+abbrev pub invariant-loop-i : goal.invariant-loop-i
+invariant-loop-i l =
+    (l.i ≤ length l.pages) × ((length l.heads ≡ length l.initial.heads) × ((length l.before ≡ length l.initial.before) × Threaded l.mask l.pages l.heads l.before l.i))
+
+abbrev pub decreases-loop-i : goal.decreases-loop-i
+decreases-loop-i l = length l.pages - l.i

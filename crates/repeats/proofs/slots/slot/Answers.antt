@@ -1,0 +1,7 @@
+-- `lists::slots::slot` meets its contract: a page has 32 bits, so the product fits.
+use borrow.Author.Rules.{rules}
+use Rattle.repeats.proofs.ChainLaws.{slot_is}
+use Rattle.repeats.proofs.slots.slot.Goals as goal
+
+pub returns : goal.returns
+returns c = slot_is _ _

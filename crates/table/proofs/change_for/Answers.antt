@@ -1,0 +1,18 @@
+use native.Mathlib.Omega.{arith}
+use mathlib.Core.Path.{refl}
+use borrow.Author.Rules.{rules}
+use Rattle.table.proofs.change_for.Goals as goal
+
+pub overflow_sub-result-in-Lift : goal.overflow_sub-result-in-Lift
+overflow_sub-result-in-Lift c =
+    let has-row = c.requires.1 (rw c.enum_told-in-Lift-1.given.1 refl) in
+    omega arith
+
+pub returns-in-Append : goal.returns-in-Append
+returns-in-Append c = rw c.enum_told-1.given.1
+
+pub returns-in-Join : goal.returns-in-Join
+returns-in-Join c = rw c.enum_told-in-Join-1.given.1
+
+pub returns-in-Lift : goal.returns-in-Lift
+returns-in-Lift c = rw c.enum_told-in-Lift-1.given.1

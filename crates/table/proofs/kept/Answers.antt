@@ -1,0 +1,39 @@
+use Prim.Native.Nat.{◌≤◌, ◌-◌}
+use native.Mathlib.Omega.{arith}
+use mathlib.Core.Bool.{not, ◌&&◌}
+use mathlib.Core.Path.{◌≡◌}
+use lib.Dec.{eqb, ltb}
+use lib.ListN.{length, take, get_or}
+use borrow.Author.Rules.{rules}
+use Rattle.lists.proofs.Leaves.{byte_one}
+use Rattle.paging.specs.Rows.{rows_of}
+use Rattle.table.specs.Serving.{moved}
+use Rattle.table.proofs.Serving.{kept_next, kept_end}
+use Rattle.table.proofs.kept.Goals as goal
+
+pub overflow_add-n : goal.overflow_add-n
+overflow_add-n c =
+    let args = c.args in
+    let loop = c.loop-i in
+    let lost = c.lost-most in
+    let one = byte_one (not (eqb (get_or args.pages.now loop.i 0) args.change.page) && ltb lost.result (get_or args.numbers.now loop.i 0)) in
+    omega arith
+
+pub loop-i-preserved : goal.loop-i-preserved
+loop-i-preserved c =
+    let args = c.args in
+    let loop = c.loop-i in
+    let lost = c.lost-most in
+    let one = byte_one (not (eqb (get_or args.pages.now loop.i 0) args.change.page) && ltb lost.result (get_or args.numbers.now loop.i 0)) in
+    let small = c.shared_slice_known-2-1.given loop.i in (
+      omega arith,
+      omega arith,
+      kept_next args.change args.numbers.now args.pages.now loop.i loop.n lost.result c.requires c.loop-i-test.true
+          (lost.ensures.told (get_or args.numbers.now loop.i 0) (omega arith)) loop.invariant.2,
+    )
+
+pub returns : goal.returns
+returns c =
+    let args = c.args in
+    let loop = c.loop-i in
+    kept_end args.change args.numbers.now args.pages.now loop.i _ c.requires c.loop-i-test.false loop.invariant.2

@@ -1,0 +1,15 @@
+use Prim.Native.Nat.{◌≤◌, ◌-◌, max}
+use native.Mathlib.Omega.{arith}
+use mathlib.Core.Path.{◌≡◌}
+use lib.ListN.{length, drop}
+use borrow.Author.Rules.{rules}
+use Rattle.paging.specs.Rows.{rows_of}
+use Rattle.paging.specs.Table.{number_in}
+use Rattle.table.proofs.Serving.{number_next, number_end}
+use Rattle.table.proofs.largest_in.Given as goal
+
+abbrev pub invariant-loop-i : goal.invariant-loop-i
+invariant-loop-i l = (l.i ≤ length l.pages) × (max l.best (number_in (drop l.i (rows_of l.numbers l.pages)) l.page) ≡ number_in (rows_of l.numbers l.pages) l.page)
+
+abbrev pub decreases-loop-i : goal.decreases-loop-i
+decreases-loop-i l = length l.pages - l.i

@@ -1,0 +1,16 @@
+use borrow.Author.Tests.{eq-eqb, ne_eqb}
+use borrow.Author.Rules.{rules}
+use Rattle.table.proofs.Numbers.{lowered_fits, lowered_is}
+use Rattle.table.proofs.number_after.Goals as goal
+
+pub returns-then-page-change : goal.returns-then-page-change
+returns-then-page-change c = rw (eq-eqb _ _ c.if-page-change.true)
+
+pub overflow_sub-result : goal.overflow_sub-result
+overflow_sub-result c = lowered_fits _ _
+
+pub returns : goal.returns
+returns c =
+    let change = c.args.change in
+    let joined = c.joined-low in
+    rw (ne_eqb _ _ c.if-page-change.false) (lowered_is change.above joined.result _ joined.ensures)

@@ -1,0 +1,16 @@
+use Prim.Native.Nat.{◌≤◌, ◌-◌}
+use native.Mathlib.Omega.{arith}
+use mathlib.Core.Path.{◌≡◌}
+use lib.ListN.{length}
+use borrow.Author.Rules.{rules}
+use Rattle.paging.specs.Rows.{rows_of}
+use Rattle.table.proofs.Serving.{Renumbering, renumbering_start, turn_drops, turn_keeps, renumbering_end}
+use Rattle.table.proofs.renumber.Given as goal
+
+abbrev pub invariant-loop-from : goal.invariant-loop-from
+invariant-loop-from l =
+    (length l.pages ≡ length l.initial.pages) × (length l.numbers ≡ length l.initial.numbers) × (l.from ≤ length l.initial.pages) ×
+    Renumbering l.change (rows_of l.initial.numbers l.initial.pages) (rows_of l.numbers l.pages) l.to l.from
+
+abbrev pub decreases-loop-from : goal.decreases-loop-from
+decreases-loop-from l = length l.initial.pages - l.from

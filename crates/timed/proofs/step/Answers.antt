@@ -1,0 +1,14 @@
+use native.Mathlib.Omega.{arith}
+use borrow.Author.Rules.{rules}
+use Rattle.timed.proofs.LiftingLaws.{number_pos}
+use Rattle.timed.proofs.step.Goals as goal
+
+pub lift_higher-requires : goal.lift_higher-requires
+lift_higher-requires c =
+    let other = c.if-numbers-at-eq1.false in
+    let inside = c.if-at-used.true in
+    let args = c.args in
+    let pre = c.requires in
+    let some = number_pos args.k args.a args.s args.page args.time args.at args.used args.numbers.now args.pages.now args.times.now
+    pre inside in
+    (pre, inside, omega arith)

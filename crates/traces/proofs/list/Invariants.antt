@@ -1,0 +1,12 @@
+-- `traces::list` meets its contract: so many places are filled, the others are as they were.
+use Prim.Native.Nat.{◌-◌}
+use native.Mathlib.Omega.{arith}
+use borrow.Author.Rules.{rules}
+use Rattle.traces.proofs.ListLaws.{Listing, listing_first, listing_next, listed}
+use Rattle.traces.proofs.list.Given as goal
+
+abbrev pub invariant-loop-i : goal.invariant-loop-i
+invariant-loop-i l = Listing l.file l.n l.initial.pages l.pages l.left l.i
+
+abbrev pub decreases-loop-i : goal.decreases-loop-i
+decreases-loop-i l = l.n - l.i
