@@ -49,6 +49,12 @@ module _ (k a : ℕ) (pos : 1 ≤ a) (le : a ≤ k) (rule : Rule) (F : Farthest 
       kind_of_rule_lem load append appends = refl
       kind_of_rule_lem bundled join joins = refl
       kind_of_rule_lem hit lift lifts = refl
+      kind_of_rule_lem hit append x3 = elim x3 [ ]
+      kind_of_rule_lem hit join x4 = elim x4 [ ]
+      kind_of_rule_lem load join x4 = elim x4 [ ]
+      kind_of_rule_lem load lift x5 = elim x5 [ ]
+      kind_of_rule_lem bundled append x5 = elim x5 [ ]
+      kind_of_rule_lem bundled lift x6 = elim x6 [ ]
 
   -- MIN makes a bundle exactly where layers join, whatever follows
   pub bundles_are_joins : (trace later : List ℕ) → map is_bundled (kinds rule k trace later []) ≡ map is_join (layer_rules k a trace no_layers)
@@ -59,6 +65,12 @@ module _ (k a : ℕ) (pos : 1 ≤ a) (le : a ≤ k) (rule : Rule) (F : Farthest 
       bundled_joins load append appends = refl
       bundled_joins bundled join joins = refl
       bundled_joins hit lift lifts = refl
+      bundled_joins hit append x3 = elim x3 [ ]
+      bundled_joins hit join x4 = elim x4 [ ]
+      bundled_joins load join x4 = elim x4 [ ]
+      bundled_joins load lift x5 = elim x5 [ ]
+      bundled_joins bundled append x5 = elim x5 [ ]
+      bundled_joins bundled lift x6 = elim x6 [ ]
 
   -- MIN loads a page exactly where rule 1a or 1b applies, whatever follows
   pub loads_are_appends_and_joins : (trace later : List ℕ)
@@ -70,6 +82,12 @@ module _ (k a : ℕ) (pos : 1 ≤ a) (le : a ≤ k) (rule : Rule) (F : Farthest 
       load_from load append appends = refl
       load_from bundled join joins = refl
       load_from hit lift lifts = refl
+      load_from hit append x3 = elim x3 [ ]
+      load_from hit join x4 = elim x4 [ ]
+      load_from load join x4 = elim x4 [ ]
+      load_from load lift x5 = elim x5 [ ]
+      load_from bundled append x5 = elim x5 [ ]
+      load_from bundled lift x6 = elim x6 [ ]
 
   -- s is the number of pages that MIN holds, whatever follows
   pub layers_top_is_min_size : (trace later : List ℕ) → length (holds rule k trace later []) ≡ (layers_after k a trace no_layers).top

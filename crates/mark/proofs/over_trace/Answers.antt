@@ -25,7 +25,7 @@ returns-then-served c =
     let if2 = c.if-served in
     let clear = c.clear in
     let refused-totals2 = c.refused_totals-then-served in
-    over_full _ _ _ _ (sym if1.left ∙ early_refusal_lem.ensures) _ serve-all.result serve-all.ensures _ _ _ _ _ _ if2.true serve-all.kept.1.1.1.0
+    over_full _ _ _ _ (sym if1.false ∙ early_refusal_lem.ensures) _ serve-all.result serve-all.ensures _ _ _ _ _ _ if2.true serve-all.kept.1.1.1.0
     serve-all.kept.1.1.1.1.0 serve-all.kept.1.1.1.1.1.0 clear.ensures.0 clear.ensures.1 clear.ensures.2 _ refused-totals2.ensures
 
 pub returns : goal.returns

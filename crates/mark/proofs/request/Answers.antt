@@ -26,7 +26,7 @@ returns-then-stepped c =
     let step = c.step-stepped in
     let if2 = c.if-stepped in
     let refused2 = c.refused-then-stepped in
-    answer_full _ _ _ _ _ judge.ensures.refusal_told if1.left _ _ _ step.result step.ensures _ if2.true refused2.ensures
+    answer_full _ _ _ _ _ judge.ensures.refusal_told if1.false _ _ _ step.result step.ensures _ if2.true refused2.ensures
 
 pub answered-requires : goal.answered-requires
 answered-requires c =
@@ -34,9 +34,9 @@ answered-requires c =
     let if1 = c.if-judged-ne0 in
     let step = c.step-stepped in
     let if2 = c.if-stepped in
-    let R = taken c.args.run c.args.count _ c.args.page _ judge.ensures.refusal_told if1.left in (
-      answer_ready _ _ _ R (judge.ensures.more if1.left),
-      count_small _ _ _ _ _ judge.ensures.refusal_told if1.left _ _ _ step.result step.ensures
+    let R = taken c.args.run c.args.count _ c.args.page _ judge.ensures.refusal_told if1.false in (
+      answer_ready _ _ _ R (judge.ensures.more if1.false),
+      count_small _ _ _ _ _ judge.ensures.refusal_told if1.false _ _ _ step.result step.ensures
           if2.false,
     )
 
@@ -47,4 +47,4 @@ returns c =
     let step = c.step-stepped in
     let if2 = c.if-stepped in
     let answered = c.answered in
-    answer_served _ _ _ _ _ judge.ensures.refusal_told if1.left _ _ _ step.result step.ensures _ if2.false answered.ensures
+    answer_served _ _ _ _ _ judge.ensures.refusal_told if1.false _ _ _ step.result step.ensures _ if2.false answered.ensures

@@ -22,7 +22,7 @@ returns-then-cache-k c =
     let ill = c.args.ill in
     let refusal = c.refusal-sizes in
     let if1 = c.if-sizes-ne0 in
-    number_cache run count cache evicted ill _ refusal.ensures if1.left c.if-cache-k.taken
+    number_cache run count cache evicted ill _ refusal.ensures if1.false c.if-cache-k.taken
 
 pub returns-then-evicted-a : goal.returns-then-evicted-a
 returns-then-evicted-a c =
@@ -34,7 +34,7 @@ returns-then-evicted-a c =
     let refusal = c.refusal-sizes in
     let if1 = c.if-sizes-ne0 in
     let if2 = c.if-cache-k in
-    number_evicted run count cache evicted ill _ refusal.ensures if1.left if2.left c.if-evicted-a.taken
+    number_evicted run count cache evicted ill _ refusal.ensures if1.false if2.false c.if-evicted-a.taken
 
 pub returns-else-well_formed : goal.returns-else-well_formed
 returns-else-well_formed c =
@@ -48,7 +48,7 @@ returns-else-well_formed c =
     let if2 = c.if-cache-k in
     let if3 = c.if-evicted-a in
     let well-formed = c.well-formed in
-    number_formed run count cache evicted ill _ refusal.ensures if1.left if2.left if3.left _ well-formed.ensures c.if-well_formed.left
+    number_formed run count cache evicted ill _ refusal.ensures if1.false if2.false if3.false _ well-formed.ensures c.if-well_formed.false
 
 pub returns-then-ill : goal.returns-then-ill
 returns-then-ill c =
@@ -63,7 +63,7 @@ returns-then-ill c =
     let if3 = c.if-evicted-a in
     let well-formed = c.well-formed in
     let if4 = c.if-well_formed in
-    number_ill run count cache evicted ill _ refusal.ensures if1.left if2.left if3.left _ well-formed.ensures if4.taken c.if-ill.taken
+    number_ill run count cache evicted ill _ refusal.ensures if1.false if2.false if3.false _ well-formed.ensures if4.taken c.if-ill.taken
 
 pub returns-then-run-eq-COUNTER_MAX : goal.returns-then-run-eq-COUNTER_MAX
 returns-then-run-eq-COUNTER_MAX c =
@@ -79,7 +79,7 @@ returns-then-run-eq-COUNTER_MAX c =
     let well-formed = c.well-formed in
     let if4 = c.if-well_formed in
     let if5 = c.if-ill in
-    number_last run count cache evicted ill _ refusal.ensures if1.left if2.left if3.left _ well-formed.ensures if4.taken if5.left c.if-run-eq-COUNTER_MAX.taken
+    number_last run count cache evicted ill _ refusal.ensures if1.false if2.false if3.false _ well-formed.ensures if4.taken if5.false c.if-run-eq-COUNTER_MAX.taken
 
 pub returns : goal.returns
 returns c =
@@ -95,4 +95,4 @@ returns c =
     let well-formed = c.well-formed in
     let if4 = c.if-well_formed in
     let if5 = c.if-ill in
-    number_none run count cache evicted ill _ refusal.ensures if1.left if2.left if3.left _ well-formed.ensures if4.taken if5.left c.if-run-eq-COUNTER_MAX.left
+    number_none run count cache evicted ill _ refusal.ensures if1.false if2.false if3.false _ well-formed.ensures if4.taken if5.false c.if-run-eq-COUNTER_MAX.false

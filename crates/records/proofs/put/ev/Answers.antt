@@ -131,7 +131,7 @@ returns c =
     ) in
     put_whole (ev_bytes a.t a.pages.now) a.rest.now _ _ _
     (pages_fine _
-    if1.left
+    if1.false
     if2.false)
     (e ∙ sym (length_ev_bytes a.t a.pages.now)) l
     (stored4 a.rest.now (bytes16 mark_eV) (bytes32 a.t) (bytes16 (length a.pages.now)) (all_bytes32 a.pages.now)
