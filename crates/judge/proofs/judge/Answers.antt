@@ -11,8 +11,7 @@ use Rattle.judge.proofs.judge.Goals as goal
 pub number-requires : goal.number-requires
 number-requires c =
     let schedule = c.args.schedule.now in
-    let good = c.well-formed in
-    let g = good in within_range c.answer.result (length schedule) c.answer.ensures.1 (omega arith)
+    within_range c.answer.result (length schedule) c.answer.ensures.1 (omega arith)
 
 pub returns : goal.returns
 returns c = to_z-of_z {w = w64} (record { sfits = c.number.type-inv }) ∙ c.number.ensures ∙ ap answer_number c.answer.ensures.0

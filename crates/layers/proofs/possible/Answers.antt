@@ -58,13 +58,9 @@ first_broken-requires c =
     let set = c.args.set.now in
     let state-refusal = c.state_refusal-no in
     let if1 = c.if-no-ne0 in
-    let wide = c.wide in
-    let if3 = c.if-set-wide in
     let tally-set = c.tally_set-sizes in
     let r = state_ready run pages numbers (sym state-refusal.ensures ∙ if1.false) in
     let m = s_most run pages numbers r in
-    let w = wide.ensures in
-    let l = if3.false in
     (tally-set.ensures.long, m, tally_most (number_in (rows_of numbers pages)) set tally-set.result 256 tally-set.ensures (omega arith))
 
 pub returns : goal.returns

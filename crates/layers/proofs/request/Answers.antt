@@ -54,8 +54,6 @@ returns-then-stepped c =
     let z = sym state-refusal.ensures ∙ if1.false in
     let r = state_ready run pages numbers z in
     let l = r.even in
-    let lp = step.auto.pages in
-    let ln = step.auto.numbers in
     let t = request_refused run pages numbers page 10
     (request_full run pages numbers page z if2.false _ _ step.ensures if3.true) (λ e. omega arith) in
     let k = rows_kept run pages numbers page z if2.false _ _ step.ensures if3.true in (
@@ -89,9 +87,6 @@ returns c =
     let if3 = c.if-stepped in
     let z = sym state-refusal.ensures ∙ if1.false in
     let r = state_ready run pages numbers z in
-    let l = r.even in
-    let lp = step.auto.pages in
-    let ln = step.auto.numbers in
     let t = request_served run pages numbers page z if2.false step.result _ step.ensures
     step.new.pages step.new.numbers if3.false refl (omega arith) in
     (c.answered.ensures ∙ t.0, t.1, t.2)

@@ -95,10 +95,6 @@ load-requires-2 c =
 pub wipe-requires-2 : goal.wipe-requires-2
 wipe-requires-2 c =
     let cleared = c.clear_marks in
-    let low = c.requires.a_low in
-    let high = c.requires.a_high in
-    let most = c.requires.count_most in
-    let full = c.if-n-k.false in
     let kept = c.load-2.auto.1.1.1 in
     let left = c.bundle.auto.1.1 in
     wipe_ready c.requires cleared.new.marks cleared.auto.marks (omega arith)

@@ -14,7 +14,6 @@ returns-then-number-ne0 c =
 
 pub run_over-run-requires : goal.run_over-run-requires
 run_over-run-requires c =
-    let keeping = c.args.keeping in
     let a = c.args.a in
     let k = c.args.k in
     let trace = c.args.trace.now in

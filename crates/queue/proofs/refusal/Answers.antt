@@ -11,7 +11,7 @@ returns-then-sizes-ne0 c =
     let evicted = c.args.evicted.now in
     let ill = c.args.ill in
     let refusal = c.refusal-sizes in
-    number_sizes run count cache evicted ill _ refusal.ensures c.if-sizes-ne0.taken
+    number_sizes run count cache evicted ill _ refusal.ensures c.if-sizes-ne0.true
 
 pub returns-then-cache-k : goal.returns-then-cache-k
 returns-then-cache-k c =
@@ -22,7 +22,7 @@ returns-then-cache-k c =
     let ill = c.args.ill in
     let refusal = c.refusal-sizes in
     let if1 = c.if-sizes-ne0 in
-    number_cache run count cache evicted ill _ refusal.ensures if1.false c.if-cache-k.taken
+    number_cache run count cache evicted ill _ refusal.ensures if1.false c.if-cache-k.true
 
 pub returns-then-evicted-a : goal.returns-then-evicted-a
 returns-then-evicted-a c =
@@ -34,7 +34,7 @@ returns-then-evicted-a c =
     let refusal = c.refusal-sizes in
     let if1 = c.if-sizes-ne0 in
     let if2 = c.if-cache-k in
-    number_evicted run count cache evicted ill _ refusal.ensures if1.false if2.false c.if-evicted-a.taken
+    number_evicted run count cache evicted ill _ refusal.ensures if1.false if2.false c.if-evicted-a.true
 
 pub returns-else-well_formed : goal.returns-else-well_formed
 returns-else-well_formed c =
@@ -63,7 +63,7 @@ returns-then-ill c =
     let if3 = c.if-evicted-a in
     let well-formed = c.well-formed in
     let if4 = c.if-well_formed in
-    number_ill run count cache evicted ill _ refusal.ensures if1.false if2.false if3.false _ well-formed.ensures if4.taken c.if-ill.taken
+    number_ill run count cache evicted ill _ refusal.ensures if1.false if2.false if3.false _ well-formed.ensures if4.true c.if-ill.true
 
 pub returns-then-run-eq-COUNTER_MAX : goal.returns-then-run-eq-COUNTER_MAX
 returns-then-run-eq-COUNTER_MAX c =
@@ -79,7 +79,7 @@ returns-then-run-eq-COUNTER_MAX c =
     let well-formed = c.well-formed in
     let if4 = c.if-well_formed in
     let if5 = c.if-ill in
-    number_last run count cache evicted ill _ refusal.ensures if1.false if2.false if3.false _ well-formed.ensures if4.taken if5.false c.if-run-eq-COUNTER_MAX.taken
+    number_last run count cache evicted ill _ refusal.ensures if1.false if2.false if3.false _ well-formed.ensures if4.true if5.false c.if-run-eq-COUNTER_MAX.true
 
 pub returns : goal.returns
 returns c =
@@ -95,4 +95,4 @@ returns c =
     let well-formed = c.well-formed in
     let if4 = c.if-well_formed in
     let if5 = c.if-ill in
-    number_none run count cache evicted ill _ refusal.ensures if1.false if2.false if3.false _ well-formed.ensures if4.taken if5.false c.if-run-eq-COUNTER_MAX.false
+    number_none run count cache evicted ill _ refusal.ensures if1.false if2.false if3.false _ well-formed.ensures if4.true if5.false c.if-run-eq-COUNTER_MAX.false

@@ -26,8 +26,6 @@ slice_bounds-decide-end c =
     let refusal = c.refusal-number in
     let if1 = c.if-number-ne0 in
     let ready = ready_of run count cache evicted (sym refusal.ensures ∙ if1.false) in
-    let count_most = ready.count_most in
-    let cache_room = ready.cache_room in
     simp length-take (omega arith)
 
 pub evict-requires : goal.evict-requires

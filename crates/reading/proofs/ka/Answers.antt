@@ -12,7 +12,7 @@ returns-in-Ka c =
     let s = c.args.s.now in
     let mark-at = c.mark_at-kind in
     let e : mark_at s ≡ KA = sym mark-at.ensures ∙ ap kind_mark
-    c.enum_told-1.given.1 in
+    c.in-Ka.is in
     rw e c.sizes.ensures
 
 pub returns-in-Rq : goal.returns-in-Rq
@@ -20,7 +20,7 @@ unfolding ka_read
 returns-in-Rq c =
     let s = c.args.s.now in
     let mark-at = c.mark_at-kind in
-    let e : mark_at s ≡ RQ = sym mark-at.ensures ∙ ap kind_mark c.enum_told-in-Rq-1.given.1 in
+    let e : mark_at s ≡ RQ = sym mark-at.ensures ∙ ap kind_mark c.in-Rq.is in
     rw e
 
 pub returns-in-Rr : goal.returns-in-Rr
@@ -28,7 +28,7 @@ unfolding ka_read
 returns-in-Rr c =
     let s = c.args.s.now in
     let mark-at = c.mark_at-kind in
-    let e : mark_at s ≡ RR = sym mark-at.ensures ∙ ap kind_mark c.enum_told-in-Rr-1.given.1 in
+    let e : mark_at s ≡ RR = sym mark-at.ensures ∙ ap kind_mark c.in-Rr.is in
     rw e
 
 pub returns-in-Ev : goal.returns-in-Ev
@@ -36,7 +36,7 @@ unfolding ka_read
 returns-in-Ev c =
     let s = c.args.s.now in
     let mark-at = c.mark_at-kind in
-    let e : mark_at s ≡ EV = sym mark-at.ensures ∙ ap kind_mark c.enum_told-in-Ev-1.given.1 in
+    let e : mark_at s ≡ EV = sym mark-at.ensures ∙ ap kind_mark c.in-Ev.is in
     rw e
 
 pub returns-in-Pf : goal.returns-in-Pf
@@ -44,12 +44,12 @@ unfolding ka_read
 returns-in-Pf c =
     let s = c.args.s.now in
     let mark-at = c.mark_at-kind in
-    let e : mark_at s ≡ PF = sym mark-at.ensures ∙ ap kind_mark c.enum_told-in-Pf-1.given.1 in
+    let e : mark_at s ≡ PF = sym mark-at.ensures ∙ ap kind_mark c.in-Pf.is in
     rw e
 
 pub returns-in-Refused : goal.returns-in-Refused
 unfolding ka_read
 returns-in-Refused c =
     let mark-at = c.mark_at-kind in
-    let e = sym mark-at.ensures ∙ ap kind_mark c.kind-1.given.1 in
+    let e = sym mark-at.ensures ∙ ap kind_mark c.in-Refused.is in
     rw e

@@ -13,7 +13,7 @@ returns-in-Rq c =
     let offset = c.args.at in
     let s = c.args.s.now in
     let mark-at = c.mark_at-kind in
-    let e : mark_at (drop offset s) ≡ RQ = sym mark-at.ensures ∙ ap kind_mark c.enum_told-1.given.1 in
+    let e : mark_at (drop offset s) ≡ RQ = sym mark-at.ensures ∙ ap kind_mark c.in-Rq.is in
     rw e c.single.ensures
 
 pub returns-in-Rr : goal.returns-in-Rr
@@ -22,7 +22,7 @@ returns-in-Rr c =
     let offset = c.args.at in
     let s = c.args.s.now in
     let mark-at = c.mark_at-kind in
-    let e : mark_at (drop offset s) ≡ RR = sym mark-at.ensures ∙ ap kind_mark c.enum_told-in-Rr-1.given.1 in
+    let e : mark_at (drop offset s) ≡ RR = sym mark-at.ensures ∙ ap kind_mark c.in-Rr.is in
     rw e c.run.ensures
 
 pub returns-in-Ka : goal.returns-in-Ka
@@ -31,7 +31,7 @@ returns-in-Ka c =
     let offset = c.args.at in
     let s = c.args.s.now in
     let mark-at = c.mark_at-kind in
-    let e : mark_at (drop offset s) ≡ KA = sym mark-at.ensures ∙ ap kind_mark c.enum_told-in-Ka-1.given.1 in
+    let e : mark_at (drop offset s) ≡ KA = sym mark-at.ensures ∙ ap kind_mark c.in-Ka.is in
     rw e
 
 pub returns-in-Ev : goal.returns-in-Ev
@@ -40,7 +40,7 @@ returns-in-Ev c =
     let offset = c.args.at in
     let s = c.args.s.now in
     let mark-at = c.mark_at-kind in
-    let e : mark_at (drop offset s) ≡ EV = sym mark-at.ensures ∙ ap kind_mark c.enum_told-in-Ev-1.given.1 in
+    let e : mark_at (drop offset s) ≡ EV = sym mark-at.ensures ∙ ap kind_mark c.in-Ev.is in
     rw e
 
 pub returns-in-Pf : goal.returns-in-Pf
@@ -49,12 +49,12 @@ returns-in-Pf c =
     let offset = c.args.at in
     let s = c.args.s.now in
     let mark-at = c.mark_at-kind in
-    let e : mark_at (drop offset s) ≡ PF = sym mark-at.ensures ∙ ap kind_mark c.enum_told-in-Pf-1.given.1 in
+    let e : mark_at (drop offset s) ≡ PF = sym mark-at.ensures ∙ ap kind_mark c.in-Pf.is in
     rw e
 
 pub returns-in-Refused : goal.returns-in-Refused
 unfolding request_read
 returns-in-Refused c =
     let mark-at = c.mark_at-kind in
-    let e = sym mark-at.ensures ∙ ap kind_mark c.kind-1.given.1 in
+    let e = sym mark-at.ensures ∙ ap kind_mark c.in-Refused.is in
     rw e

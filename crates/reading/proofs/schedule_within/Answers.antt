@@ -20,7 +20,7 @@ returns-in-Sizes c =
     let if2 = c.if-at-eq0 in
     let ka = c.ka-first in
     schedule_first bound s offset if2.true
-    (sym (ap start_answer c.first-1.given.1) ∙ ka.ensures)
+    (sym (ap start_answer c.in-Sizes.is) ∙ ka.ensures)
 
 pub returns-in-Refused : goal.returns-in-Refused
 returns-in-Refused c =
@@ -30,7 +30,7 @@ returns-in-Refused c =
     let if2 = c.if-at-eq0 in
     let ka = c.ka-first in
     schedule_first bound s offset if2.true
-    (sym (ap start_answer c.first-in-Refused-1.given.1) ∙ ka.ensures)
+    (sym (ap start_answer c.in-Refused.is) ∙ ka.ensures)
 
 pub returns-then-at-s-2 : goal.returns-then-at-s-2
 returns-then-at-s-2 c =

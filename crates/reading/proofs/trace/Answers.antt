@@ -18,7 +18,7 @@ returns-in-Sizes c =
     let if2 = c.if-at-eq0 in
     let ka = c.ka-first in
     trace_first s offset if2.true
-    (sym (ap start_answer c.first-1.given.1) ∙ ka.ensures)
+    (sym (ap start_answer c.in-Sizes.is) ∙ ka.ensures)
 
 pub returns-in-Refused : goal.returns-in-Refused
 returns-in-Refused c =
@@ -27,7 +27,7 @@ returns-in-Refused c =
     let if2 = c.if-at-eq0 in
     let ka = c.ka-first in
     trace_first s offset if2.true
-    (sym (ap start_answer c.first-in-Refused-1.given.1) ∙ ka.ensures)
+    (sym (ap start_answer c.in-Refused.is) ∙ ka.ensures)
 
 pub returns-then-at-s-2 : goal.returns-then-at-s-2
 returns-then-at-s-2 c =

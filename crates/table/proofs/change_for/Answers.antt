@@ -5,14 +5,14 @@ use Rattle.table.proofs.change_for.Goals as goal
 
 pub overflow_sub-result-in-Lift : goal.overflow_sub-result-in-Lift
 overflow_sub-result-in-Lift c =
-    let has-row = c.requires.1 (rw c.enum_told-in-Lift-1.given.1 refl) in
+    let has-row = c.requires.1 (rw c.in-Lift.is refl) in
     omega arith
 
 pub returns-in-Append : goal.returns-in-Append
-returns-in-Append c = rw c.enum_told-1.given.1
+returns-in-Append c = rw c.in-Append.is
 
 pub returns-in-Join : goal.returns-in-Join
-returns-in-Join c = rw c.enum_told-in-Join-1.given.1
+returns-in-Join c = rw c.in-Join.is
 
 pub returns-in-Lift : goal.returns-in-Lift
-returns-in-Lift c = rw c.enum_told-in-Lift-1.given.1
+returns-in-Lift c = rw c.in-Lift.is

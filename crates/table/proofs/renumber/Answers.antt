@@ -12,26 +12,15 @@ loop-from-init c = (omega arith, omega arith, omega arith, renumbering_start _ _
 
 pub put_row-requires-then-number-gt0 : goal.put_row-requires-then-number-gt0
 put_row-requires-then-number-gt0 c =
-    let loop = c.loop-from in
-    let put-row = c.put_row in
-    let fewer = loop.invariant.3.fewer in
-    let even-pages = put-row.auto.pages in
-    let even-numbers = put-row.auto.numbers in
     (omega arith, omega arith)
 
 pub loop-from-preserved-then-number-gt0 : goal.loop-from-preserved-then-number-gt0
 loop-from-preserved-then-number-gt0 c =
     let args = c.args in
     let loop = c.loop-from in
-    let more = c.loop-from-test.true in
-    let ahead = loop.invariant.2 in
     let number-after = c.number_after-number in
     let put-row = c.put_row in
-    let even-pages = put-row.auto.pages in
-    let even-numbers = put-row.auto.numbers in
     let put-row2 = c.put_row-then-number-gt0 in
-    let even-pages2 = put-row2.auto.pages in
-    let even-numbers2 = put-row2.auto.numbers in
     let if1 = c.if-number-gt0 in (
       omega arith,
       omega arith,
@@ -45,9 +34,7 @@ loop-from-preserved c =
     let args = c.args in
     let loop = c.loop-from in
     let number-after = c.number_after-number in
-    let put-row = c.put_row in
-    let even-pages = put-row.auto.pages in
-    let even-numbers = put-row.auto.numbers in (
+    let put-row = c.put_row in (
       omega arith,
       omega arith,
       omega arith,

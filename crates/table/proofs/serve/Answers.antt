@@ -11,48 +11,36 @@ use Rattle.table.proofs.serve.Goals as goal
 pub slice_bounds-sort-end-2 : goal.slice_bounds-sort-end-2
 slice_bounds-sort-end-2 c =
     let renumber = c.renumber-n in
-    let even-pages = renumber.auto.pages in
     sym (length-take-le renumber.result renumber.new.pages (omega arith))
 
 pub slice_bounds-sort-end-4 : goal.slice_bounds-sort-end-4
 slice_bounds-sort-end-4 c =
     let renumber = c.renumber-n in
-    let even-numbers = renumber.auto.numbers in
     sym (length-take-le renumber.result renumber.new.numbers (omega arith))
 
 pub sort-requires : goal.sort-requires
 sort-requires c =
-    let renumber = c.renumber-n in
-    let even-pages = renumber.auto.pages in
-    let even-numbers = renumber.auto.numbers in
     simp length-take (omega arith)
 
 pub put_row-requires : goal.put_row-requires
 put_row-requires c =
-    let renumber = c.renumber-n in
     let sort = c.sort in
-    let even-pages = renumber.auto.pages in
-    let even-numbers = renumber.auto.numbers in
     let front-pages = simp length-take at sort.auto.pages in
     let front-numbers = simp length-take at sort.auto.numbers in
     (simp (length-append, length-drop) (omega arith), simp (length-append, length-drop) (omega arith))
 
 pub shape_of-pages : goal.shape_of-pages
 shape_of-pages c =
-    let renumber = c.renumber-n in
     let sort = c.sort in
     let put-row = c.put_row in
-    let even-pages = renumber.auto.pages in
     let front-pages = simp length-take at sort.auto.pages in
     let whole-pages = simp (length-append, length-drop) at put-row.auto.pages in
     omega arith
 
 pub shape_of-numbers : goal.shape_of-numbers
 shape_of-numbers c =
-    let renumber = c.renumber-n in
     let sort = c.sort in
     let put-row = c.put_row in
-    let even-numbers = renumber.auto.numbers in
     let front-numbers = simp length-take at sort.auto.numbers in
     let whole_numbers = simp (length-append, length-drop) at put-row.auto.numbers in
     omega arith
@@ -63,8 +51,6 @@ returns c =
     let renumber = c.renumber-n in
     let args = c.args in
     let put-row = c.put_row in
-    let even-pages = renumber.auto.pages in
-    let even-numbers = renumber.auto.numbers in
     serve_end (moved args.change (rows_of args.numbers.now args.pages.now)) renumber.new.numbers renumber.new.pages
     sort.new.numbers sort.new.pages _ renumber.result _ _ _ (omega arith) renumber.ensures.0 (omega arith) renumber.ensures.1
     (sort.auto.pages ∙ length-take-le renumber.result renumber.new.pages (omega arith))

@@ -5,7 +5,6 @@ use Rattle.timed.proofs.step.Goals as goal
 
 pub lift_higher-requires : goal.lift_higher-requires
 lift_higher-requires c =
-    let other = c.if-numbers-at-eq1.false in
     let inside = c.if-at-used.true in
     let args = c.args in
     let pre = c.requires in

@@ -10,13 +10,10 @@ loop-i-init c = listing_first _ _ _ c.requires.0
 pub next_request-request-requires : goal.next_request-request-requires
 next_request-request-requires c =
     let inv = c.loop-i.invariant in
-    let size = inv.size in
     (inv.started, omega arith)
 
 pub bounds-pages-i : goal.bounds-pages-i
 bounds-pages-i c =
-    let room = c.requires.1 in
-    let kept = c.loop-i.invariant.kept in
     omega arith
 
 pub loop-i-preserved : goal.loop-i-preserved

@@ -11,19 +11,17 @@ pub loop-page-init : goal.loop-page-init
 loop-page-init c = measuring_first _ _
 
 pub overflow_sub-most : goal.overflow_sub-most
-overflow_sub-most c = let few = c.loop-page.invariant.counting.few in omega arith
+overflow_sub-most c = omega arith
 
 pub returns-then-more-most : goal.returns-then-more-most
 returns-then-more-most c =
     let limit = c.requires in
     let inv = c.loop-page.invariant in
     let trace = c.trace in
-    c.refused.ensures ∙ measured_too_many _ _ _ _ _ inv limit trace.result trace.ensures _ _ _ c.page-1.given.1 c.if-more-most.true
+    c.refused.ensures ∙ measured_too_many _ _ _ _ _ inv limit trace.result trace.ensures _ _ _ c.in-Request.is c.if-more-most.true
 
 pub overflow_add-n : goal.overflow_add-n
 overflow_add-n c =
-    let few = c.loop-page.invariant.counting.few in
-    let room = c.if-more-most.false in
     omega arith
 
 pub with_record-last-requires : goal.with_record-last-requires
@@ -31,16 +29,14 @@ with_record-last-requires c =
     let limit = c.requires in
     let inv = c.loop-page.invariant in
     let trace = c.trace in
-    let fact = request_fact _ _ _ _ inv.counting trace.result trace.ensures _ _ _ c.page-1.given.1 in
+    let fact = request_fact _ _ _ _ inv.counting trace.result trace.ensures _ _ _ c.in-Request.is in
     (inv.few, size_fits _ _ _ _ _ inv limit trace.result trace.ensures, fact.some, omega arith)
 
 pub loop-page-smaller : goal.loop-page-smaller
 loop-page-smaller c =
     let inv = c.loop-page.invariant in
     let trace = c.trace in
-    let fact = request_fact _ _ _ _ inv.counting trace.result trace.ensures _ _ _ c.page-1.given.1 in
-    let onward = fact.onward in
-    let inside = fact.inside in
+    let fact = request_fact _ _ _ _ inv.counting trace.result trace.ensures _ _ _ c.in-Request.is in
     omega arith
 
 pub loop-page-preserved : goal.loop-page-preserved
@@ -48,7 +44,7 @@ loop-page-preserved c =
     let limit = c.requires in
     let inv = c.loop-page.invariant in
     let trace = c.trace in
-    let found = c.page-1.given.1 in
+    let found = c.in-Request.is in
     let some = (request_fact _ _ _ _ inv.counting trace.result trace.ensures _ _ _ found).some in
     let with = c.with_record-last in
     measuring_next _ _ _ _ _ inv limit trace.result trace.ensures _ _ _ found c.if-more-most.false some with.result with.ensures
@@ -64,17 +60,17 @@ returns-in-End c =
     let limit = c.requires in
     let inv = c.loop-page.invariant in
     let trace = c.trace in
-    measured_all _ _ _ _ _ inv limit trace.result trace.ensures c.enum_told-1.given.1 c.whole.result c.whole.ensures
+    measured_all _ _ _ _ _ inv limit trace.result trace.ensures c.in-End.is c.whole.result c.whole.ensures
 
 pub returns-in-Refused : goal.returns-in-Refused
 returns-in-Refused c =
     let limit = c.requires in
     let inv = c.loop-page.invariant in
     let trace = c.trace in
-    measured_damage _ _ _ _ _ inv limit trace.result trace.ensures _ c.number-1.given.1 c.refused-in-Refused.result c.refused-in-Refused.ensures
+    measured_damage _ _ _ _ _ inv limit trace.result trace.ensures _ c.in-Refused.is c.refused-in-Refused.result c.refused-in-Refused.ensures
 
 pub returns-in-Sizes : goal.returns-in-Sizes
 returns-in-Sizes c =
     let inv = c.loop-page.invariant in
     let trace = c.trace in
-    absurd (no_sizes _ _ _ _ inv.counting trace.result trace.ensures _ _ _ c.enum_told-in-Sizes-1.given.1)
+    absurd (no_sizes _ _ _ _ inv.counting trace.result trace.ensures _ _ _ c.in-Sizes.is)

@@ -8,7 +8,6 @@ use Rattle.editions.proofs.measure.whole.Goals as goal
 
 pub overflow_add-result : goal.overflow_add-result
 overflow_add-result c =
-    let size = c.requires in
     let small = last_small c.args.last.times c.last_length.result c.last_length.ensures in
     omega arith
 

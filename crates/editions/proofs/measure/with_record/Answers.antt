@@ -6,7 +6,6 @@ use Rattle.editions.proofs.measure.with_record.Goals as goal
 
 pub overflow_add-size : goal.overflow_add-size
 overflow_add-size c =
-    let size = c.requires.1 in
     let small = last_small c.args.last.times c.last_length.result c.last_length.ensures in
     omega arith
 
@@ -18,13 +17,10 @@ returns-then-page-last c =
 
 pub overflow_add-all : goal.overflow_add-all
 overflow_add-all c =
-    let few = c.requires.3 in
-    let last-few = c.requires.0 in
     omega arith
 
 pub overflow_add-result : goal.overflow_add-result
 overflow_add-result c =
-    let size = c.requires.1 in
     omega arith
 
 pub returns-then-all-gt-LONGEST : goal.returns-then-all-gt-LONGEST

@@ -22,7 +22,6 @@ returns-then-times-eq1 c =
 
 pub overflow_cast-times : goal.overflow_cast-times
 overflow_cast-times c =
-    let few = c.requires.0 in
     omega arith
 
 pub rr_at-requires : goal.rr_at-requires

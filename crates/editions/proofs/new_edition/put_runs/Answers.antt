@@ -26,8 +26,6 @@ overflow_add-i c =
 
 pub loop-i-smaller : goal.loop-i-smaller
 loop-i-smaller c =
-    let some = c.next_run-run.ensures.some in
-    let more = c.loop-i-test.true in
     omega arith
 
 pub loop-i-preserved : goal.loop-i-preserved

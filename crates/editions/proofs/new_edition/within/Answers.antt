@@ -7,10 +7,10 @@ use Rattle.editions.proofs.new_edition.within.Goals as goal
 
 pub sized-requires : goal.sized-requires
 sized-requires c =
-    (c.requires, sym (ap start_answer c.first-in-Sizes-1.given.1) ∙ c.ka-first.ensures)
+    (c.requires, sym (ap start_answer c.in-Sizes.is) ∙ c.ka-first.ensures)
 
 pub returns-in-Refused : goal.returns-in-Refused
 returns-in-Refused c =
     let ka = c.ka-first in
-    new_starts_damaged c.args.most c.args.input.now c.args.out.now _ (sym (ap start_answer c.first-1.given.1) ∙ ka.ensures) c.refused.result
+    new_starts_damaged c.args.most c.args.input.now c.args.out.now _ (sym (ap start_answer c.in-Refused.is) ∙ ka.ensures) c.refused.result
     c.refused.ensures

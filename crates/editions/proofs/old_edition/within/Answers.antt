@@ -15,7 +15,6 @@ pub size-length-requires : goal.size-length-requires
 size-length-requires c =
     let count = c.count-told in
     let told = old_told c.args.most c.args.input.now c.args.out.now count.result count.ensures in
-    let most = c.requires in
     let few = (requests_are told c.if-told-ne0.false).1 in
     omega arith
 
@@ -54,7 +53,6 @@ put_singles-requires c =
     let long = old_length_is (requests_from c.args.input.now 6).held count.result.requests size.result are size.ensures in
     let if2 = c.if-out-length in
     let fits = behind_fits told none (enough_by _ size.result _ long if2.false) ka.new.rest ka.ensures.1 in
-    let is = size.ensures in
     (are, omega arith)
 
 pub returns : goal.returns

@@ -8,8 +8,6 @@ use Rattle.editions.proofs.runs.next_run.Goals as goal
 pub begun-first-requires : goal.begun-first-requires
 begun-first-requires c =
     let passing = c.requires.0 in
-    let some = c.requires.1 in
-    let size = passing.size in
     (passing.started, passing.small, omega arith)
 
 pub loop-times-init : goal.loop-times-init
@@ -31,8 +29,6 @@ returns-then-more-page c =
 
 pub overflow_add-all : goal.overflow_add-all
 overflow_add-all c =
-    let few = c.loop-times.invariant.begun.few in
-    let few' = c.next_record-more.ensures.0.few in
     omega arith
 
 pub returns-then-all-gt-LONGEST : goal.returns-then-all-gt-LONGEST
@@ -45,8 +41,6 @@ returns-then-all-gt-LONGEST c =
 
 pub loop-times-smaller : goal.loop-times-smaller
 loop-times-smaller c =
-    let some = c.next_record-more.ensures.0.some in
-    let test = c.loop-times-test.true in
     omega arith
 
 pub loop-times-preserved : goal.loop-times-preserved

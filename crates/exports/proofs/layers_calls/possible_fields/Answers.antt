@@ -5,7 +5,7 @@ use borrow.Author.Rules.{rules}
 use Rattle.exports.proofs.layers_calls.possible_fields.Goals as goal
 
 pub returns-in-Refused : goal.returns-in-Refused
-returns-in-Refused c = sym (ap possible_fields c.answer-1.given.1)
+returns-in-Refused c = sym (ap possible_fields c.in-Refused.is)
 
 pub returns-in-BrokenAt : goal.returns-in-BrokenAt
-returns-in-BrokenAt c = sym (ap possible_fields c.answer-in-BrokenAt-1.given.1)
+returns-in-BrokenAt c = sym (ap possible_fields c.in-BrokenAt.is)

@@ -5,13 +5,13 @@ use borrow.Author.Rules.{rules}
 use Rattle.exports.proofs.reader_calls.schedule_fields.Goals as goal
 
 pub returns-in-Refused : goal.returns-in-Refused
-returns-in-Refused c = sym (ap schedule_fields c.found-1.given.1)
+returns-in-Refused c = sym (ap schedule_fields c.in-Refused.is)
 
 pub returns-in-Sizes : goal.returns-in-Sizes
-returns-in-Sizes c = sym (ap schedule_fields c.found-in-Sizes-1.given.1)
+returns-in-Sizes c = sym (ap schedule_fields c.in-Sizes.is)
 
 pub returns-in-Bundle : goal.returns-in-Bundle
-returns-in-Bundle c = sym (ap schedule_fields c.found-in-Bundle-1.given.1)
+returns-in-Bundle c = sym (ap schedule_fields c.in-Bundle.is)
 
 pub returns-in-Fetch : goal.returns-in-Fetch
-returns-in-Fetch c = sym (ap schedule_fields c.found-in-Fetch-1.given.1)
+returns-in-Fetch c = sym (ap schedule_fields c.in-Fetch.is)

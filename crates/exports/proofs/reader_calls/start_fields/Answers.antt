@@ -5,7 +5,7 @@ use borrow.Author.Rules.{rules}
 use Rattle.exports.proofs.reader_calls.start_fields.Goals as goal
 
 pub returns-in-Refused : goal.returns-in-Refused
-returns-in-Refused c = sym (ap start_fields c.start-1.given.1)
+returns-in-Refused c = sym (ap start_fields c.in-Refused.is)
 
 pub returns-in-Sizes : goal.returns-in-Sizes
-returns-in-Sizes c = sym (ap start_fields c.start-in-Sizes-1.given.1)
+returns-in-Sizes c = sym (ap start_fields c.in-Sizes.is)

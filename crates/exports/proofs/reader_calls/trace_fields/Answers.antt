@@ -5,10 +5,10 @@ use borrow.Author.Rules.{rules}
 use Rattle.exports.proofs.reader_calls.trace_fields.Goals as goal
 
 pub returns-in-Refused : goal.returns-in-Refused
-returns-in-Refused c = sym (ap trace_fields c.found-1.given.1)
+returns-in-Refused c = sym (ap trace_fields c.in-Refused.is)
 
 pub returns-in-Sizes : goal.returns-in-Sizes
-returns-in-Sizes c = sym (ap trace_fields c.found-in-Sizes-1.given.1)
+returns-in-Sizes c = sym (ap trace_fields c.in-Sizes.is)
 
 pub returns-in-Request : goal.returns-in-Request
-returns-in-Request c = sym (ap trace_fields c.found-in-Request-1.given.1)
+returns-in-Request c = sym (ap trace_fields c.in-Request.is)

@@ -5,7 +5,7 @@ use borrow.Author.Rules.{rules}
 use Rattle.exports.proofs.writer_calls.written_fields.Goals as goal
 
 pub returns-in-Next : goal.returns-in-Next
-returns-in-Next c = sym (ap written_fields c.written-1.given.1)
+returns-in-Next c = sym (ap written_fields c.in-Next.is)
 
 pub returns-in-Refused : goal.returns-in-Refused
-returns-in-Refused c = sym (ap written_fields c.written-in-Refused-1.given.1)
+returns-in-Refused c = sym (ap written_fields c.in-Refused.is)

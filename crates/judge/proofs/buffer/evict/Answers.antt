@@ -28,9 +28,7 @@ loop-left-preserved c =
     let m = turn.m in
     let read32 = c.read32-page in
     let take_out = c.take_out in
-    let d = take_out.ensures.1 c.if-take_out.true in
-    let l = d.0 in
-    let kept = take_out.auto.held in (
+    let d = take_out.ensures.1 c.if-take_out.true in (
       (omega arith, omega arith, omega arith, omega arith),
       (
         inv.1.0

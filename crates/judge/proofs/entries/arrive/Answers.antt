@@ -43,7 +43,6 @@ pub close_open-requires : goal.close_open-requires
 close_open-requires c =
     let pre = c.requires in
     let f = pre.0 in
-    let d = f.counted in
     let i = f.inside in let r = f.room in let z = f.started in ((z, omega arith, omega arith), (r, omega arith, i))
 
 -- LOST overflow-mul-t20
@@ -69,8 +68,8 @@ returns-in-Overfull c =
     let u = c.args.u in
     let pre = c.requires in
     let close_open = c.close_open in (
-      seven k requests trace schedule held place u pre.0 (omega arith) (omega arith) close_open.result close_open.new.1.1.1.0 close_open.ensures.0
-          c.enum_told-1.given.1,
+      seven k requests trace schedule held place u pre.0 (omega arith) (omega arith) close_open.result close_open.new.held close_open.ensures.0
+          c.in-Overfull.is,
       tt,
     )
 
@@ -84,10 +83,9 @@ returns-in-Open c =
     let trace = c.args.trace.now in
     let u = c.args.u in
     let pre = c.requires in
-    let close_open = c.close_open in
-    let rest = c.rest-1 in (
+    let close_open = c.close_open in (
       opens k requests trace schedule held place u pre.0 (omega arith) (omega arith) close_open.result close_open.new.held close_open.ensures.0
-          rest.given.0.0 rest.given.0.1.0 rest.given.1,
+          c.in-Open.rest c.in-Open.n c.in-Open.is,
       opens_sound k requests trace schedule held place u pre.0 (omega arith) (omega arith) close_open.result close_open.new.held
-          close_open.ensures.0 rest.given.0.0 rest.given.0.1.0 rest.given.1 close_open.ensures.1,
+          close_open.ensures.0 c.in-Open.rest c.in-Open.n c.in-Open.is close_open.ensures.1,
     )

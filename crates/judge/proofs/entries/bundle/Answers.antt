@@ -25,11 +25,10 @@ returns-then-here-gt0 c =
     let t = c.args.t in
     let trace = c.args.trace.now in
     let arrive = c.arrive in
-    let here = c.here-1 in
-    let d = lands k requests _ trace schedule arrive.result here.given.0.0 here.given.1 arrive.ensures.1 in (
-      ev_late k requests trace schedule arrive.new.held here.given.0.0 d.sound t (nums32 count (drop pages schedule)) (omega arith)
+    let d = lands k requests _ trace schedule arrive.result c.in-On.here c.in-On.is arrive.ensures.1 in (
+      ev_late k requests trace schedule arrive.new.held c.in-On.here d.sound t (nums32 count (drop pages schedule)) (omega arith)
           ∙ acts k trace schedule arrive.new.held (standing trace schedule held place) (ev t (nums32 count (drop pages schedule))) arrive.result
-          arrive.ensures.0 here.given.0.0 here.given.1,
+          arrive.ensures.0 c.in-On.here c.in-On.is,
       tt,
     )
 
@@ -40,9 +39,8 @@ evict-requires c =
     let schedule = c.args.schedule.now in
     let trace = c.args.trace.now in
     let arrive = c.arrive in
-    let here = c.here-1 in
-    let d = lands k requests _ trace schedule arrive.result here.given.0.0 here.given.1 arrive.ensures.1 in
-    let r = d.sound.room in let kept = arrive.auto.held in (omega arith, omega arith)
+    let d = lands k requests _ trace schedule arrive.result c.in-On.here c.in-On.is arrive.ensures.1 in
+    (omega arith, omega arith)
 
 pub overflow_sub-result : goal.overflow_sub-result
 overflow_sub-result c =
@@ -56,9 +54,8 @@ overflow_add-result c =
     let schedule = c.args.schedule.now in
     let trace = c.args.trace.now in
     let arrive = c.arrive in
-    let here = c.here-1 in
-    let d = lands k requests _ trace schedule arrive.result here.given.0.0 here.given.1 arrive.ensures.1 in
-    let b = d.sound.behind in let i = d.sound.inside in omega arith
+    let d = lands k requests _ trace schedule arrive.result c.in-On.here c.in-On.is arrive.ensures.1 in
+    omega arith
 
 pub returns-in-Stop : goal.returns-in-Stop
 returns-in-Stop c =
@@ -70,10 +67,9 @@ returns-in-Stop c =
     let schedule = c.args.schedule.now in
     let t = c.args.t in
     let trace = c.args.trace.now in
-    let arrive = c.arrive in
-    let number = c.number-1 in (
+    let arrive = c.arrive in (
       halts k trace schedule arrive.new.held (standing trace schedule held place) (ev t (nums32 count (drop pages schedule))) arrive.result arrive.ensures.0
-          number.given.0.0 number.given.1,
+          c.in-Stop.number c.in-Stop.is,
       tt,
     )
 
@@ -96,17 +92,15 @@ returns-then-evict c =
     let t = c.args.t in
     let trace = c.args.trace.now in
     let arrive = c.arrive in
-    let here = c.here-1 in
     let evict = c.evict in
     let if2 = c.if-evict in
-    let d = lands k requests _ trace schedule arrive.result here.given.0.0 here.given.1 arrive.ensures.1 in
-    let l = (evict.ensures.1 if2.true).1 in
-    let e = d.ends in (
-      ev_done k requests trace schedule arrive.new.held here.given.0.0 d.sound t count next (nums32 count (drop pages schedule)) evict.new.held
+    let d = lands k requests _ trace schedule arrive.result c.in-On.here c.in-On.is arrive.ensures.1 in
+    let l = (evict.ensures.1 if2.true).1 in (
+      ev_done k requests trace schedule arrive.new.held c.in-On.here d.sound t count next (nums32 count (drop pages schedule)) evict.new.held
           (omega arith) (sym if2.true ∙ evict.ensures.0) l
           ∙ acts k trace schedule arrive.new.held (standing trace schedule held place) (ev t (nums32 count (drop pages schedule))) arrive.result
-          arrive.ensures.0 here.given.0.0 here.given.1,
-      ev_sound k requests trace schedule arrive.new.held here.given.0.0 d.sound t count next (omega arith) (omega arith),
+          arrive.ensures.0 c.in-On.here c.in-On.is,
+      ev_sound k requests trace schedule arrive.new.held c.in-On.here d.sound t count next (omega arith) (omega arith),
     )
 
 pub shape_of-held-else-evict : goal.shape_of-held-else-evict
@@ -127,12 +121,11 @@ returns-else-evict c =
     let t = c.args.t in
     let trace = c.args.trace.now in
     let arrive = c.arrive in
-    let here = c.here-1 in
     let evict = c.evict in
-    let d = lands k requests _ trace schedule arrive.result here.given.0.0 here.given.1 arrive.ensures.1 in (
-      ev_missing k requests trace schedule arrive.new.held here.given.0.0 d.sound t (nums32 count (drop pages schedule)) (omega arith)
+    let d = lands k requests _ trace schedule arrive.result c.in-On.here c.in-On.is arrive.ensures.1 in (
+      ev_missing k requests trace schedule arrive.new.held c.in-On.here d.sound t (nums32 count (drop pages schedule)) (omega arith)
           (sym c.if-evict.false ∙ evict.ensures.0)
           ∙ acts k trace schedule arrive.new.held (standing trace schedule held place) (ev t (nums32 count (drop pages schedule))) arrive.result
-          arrive.ensures.0 here.given.0.0 here.given.1,
+          arrive.ensures.0 c.in-On.here c.in-On.is,
       tt,
     )

@@ -18,9 +18,8 @@ has-requires c =
     let schedule = c.args.schedule.now in
     let trace = c.args.trace.now in
     let arrive = c.arrive in
-    let here = c.here-1 in
-    let d = lands k requests _ trace schedule arrive.result here.given.0.0 here.given.1 arrive.ensures.1 in
-    let r = d.sound.room in let kept = arrive.auto.held in omega arith
+    let d = lands k requests _ trace schedule arrive.result c.in-On.here c.in-On.is arrive.ensures.1 in
+    omega arith
 
 pub returns-then-has : goal.returns-then-has
 returns-then-has c =
@@ -33,11 +32,10 @@ returns-then-has c =
     let t = c.args.t in
     let trace = c.args.trace.now in
     let arrive = c.arrive in
-    let here = c.here-1 in
-    let d = lands k requests _ trace schedule arrive.result here.given.0.0 here.given.1 arrive.ensures.1 in (
-      pf_held k requests trace schedule arrive.new.held here.given.0.0 d.sound t page (sym c.if-has.true ∙ c.has.ensures)
-          ∙ acts k trace schedule arrive.new.held (standing trace schedule held place) (pf t page) arrive.result arrive.ensures.0 here.given.0.0
-          here.given.1,
+    let d = lands k requests _ trace schedule arrive.result c.in-On.here c.in-On.is arrive.ensures.1 in (
+      pf_held k requests trace schedule arrive.new.held c.in-On.here d.sound t page (sym c.if-has.true ∙ c.has.ensures)
+          ∙ acts k trace schedule arrive.new.held (standing trace schedule held place) (pf t page) arrive.result arrive.ensures.0 c.in-On.here
+          c.in-On.is,
       tt,
     )
 
@@ -48,8 +46,7 @@ fetched-requires c =
     let schedule = c.args.schedule.now in
     let trace = c.args.trace.now in
     let arrive = c.arrive in
-    let here = c.here-1 in
-    let d = lands k requests _ trace schedule arrive.result here.given.0.0 here.given.1 arrive.ensures.1 in
+    let d = lands k requests _ trace schedule arrive.result c.in-On.here c.in-On.is arrive.ensures.1 in
     d.sound.inside
 
 pub returns-then-fetched : goal.returns-then-fetched
@@ -63,11 +60,10 @@ returns-then-fetched c =
     let t = c.args.t in
     let trace = c.args.trace.now in
     let arrive = c.arrive in
-    let here = c.here-1 in
-    let d = lands k requests _ trace schedule arrive.result here.given.0.0 here.given.1 arrive.ensures.1 in (
-      pf_fetched k requests trace schedule arrive.new.held here.given.0.0 d.sound t page (sym c.if-fetched.true ∙ c.fetched.ensures)
-          ∙ acts k trace schedule arrive.new.held (standing trace schedule held place) (pf t page) arrive.result arrive.ensures.0 here.given.0.0
-          here.given.1,
+    let d = lands k requests _ trace schedule arrive.result c.in-On.here c.in-On.is arrive.ensures.1 in (
+      pf_fetched k requests trace schedule arrive.new.held c.in-On.here d.sound t page (sym c.if-fetched.true ∙ c.fetched.ensures)
+          ∙ acts k trace schedule arrive.new.held (standing trace schedule held place) (pf t page) arrive.result arrive.ensures.0 c.in-On.here
+          c.in-On.is,
       tt,
     )
 
@@ -78,9 +74,8 @@ overflow_add-result c =
     let schedule = c.args.schedule.now in
     let trace = c.args.trace.now in
     let arrive = c.arrive in
-    let here = c.here-1 in
-    let d = lands k requests _ trace schedule arrive.result here.given.0.0 here.given.1 arrive.ensures.1 in
-    let i = d.sound.inside in omega arith
+    let d = lands k requests _ trace schedule arrive.result c.in-On.here c.in-On.is arrive.ensures.1 in
+    omega arith
 
 pub returns-in-Stop : goal.returns-in-Stop
 returns-in-Stop c =
@@ -91,10 +86,9 @@ returns-in-Stop c =
     let schedule = c.args.schedule.now in
     let t = c.args.t in
     let trace = c.args.trace.now in
-    let arrive = c.arrive in
-    let number = c.number-1 in (
-      halts k trace schedule arrive.new.held (standing trace schedule held place) (pf t page) arrive.result arrive.ensures.0 number.given.0.0
-          number.given.1,
+    let arrive = c.arrive in (
+      halts k trace schedule arrive.new.held (standing trace schedule held place) (pf t page) arrive.result arrive.ensures.0 c.in-Stop.number
+          c.in-Stop.is,
       tt,
     )
 
@@ -110,15 +104,14 @@ returns-else-fetched c =
     let trace = c.args.trace.now in
     let pre = c.requires in
     let arrive = c.arrive in
-    let here = c.here-1 in
     let has = c.has in
     let if1 = c.if-has in
-    let d = lands k requests _ trace schedule arrive.result here.given.0.0 here.given.1 arrive.ensures.1 in
+    let d = lands k requests _ trace schedule arrive.result c.in-On.here c.in-On.is arrive.ensures.1 in
     let e = d.ends in
     let m = rw (← e) at pre.3 in (
-      pf_done k requests trace schedule arrive.new.held here.given.0.0 d.sound t page (sym if1.false ∙ has.ensures)
+      pf_done k requests trace schedule arrive.new.held c.in-On.here d.sound t page (sym if1.false ∙ has.ensures)
           (sym c.if-fetched.false ∙ c.fetched.ensures) m
-          ∙ acts k trace schedule arrive.new.held (standing trace schedule held place) (pf t page) arrive.result arrive.ensures.0 here.given.0.0
-          here.given.1,
-      rw (← e) (pf_sound k requests trace schedule arrive.new.held here.given.0.0 d.sound t (omega arith)),
+          ∙ acts k trace schedule arrive.new.held (standing trace schedule held place) (pf t page) arrive.result arrive.ensures.0 c.in-On.here
+          c.in-On.is,
+      rw (← e) (pf_sound k requests trace schedule arrive.new.held c.in-On.here d.sound t (omega arith)),
     )

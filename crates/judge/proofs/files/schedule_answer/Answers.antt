@@ -11,10 +11,9 @@ returns-then-own_k-k c =
     let requests = c.args.requests in
     let schedule = c.args.schedule.now in
     let trace = c.args.trace.now in
-    let schedule-within = c.schedule_within in
-    let own-k = c.own_k-1 in (
-      other_k trace schedule requests k a schedule-within.result schedule-within.ensures own-k.given.0.0 own-k.given.0.1.0
-          own-k.given.0.1.1.0 own-k.given.1 c.if-own_k-k.true,
+    let schedule-within = c.schedule_within in (
+      other_k trace schedule requests k a schedule-within.result schedule-within.ensures c.in-Sizes.own_k c.in-Sizes.own_a
+          c.in-Sizes.next c.in-Sizes.is c.if-own_k-k.true,
       tt,
     )
 
@@ -25,10 +24,9 @@ returns-then-own_a-a c =
     let requests = c.args.requests in
     let schedule = c.args.schedule.now in
     let trace = c.args.trace.now in
-    let schedule-within = c.schedule_within in
-    let own-k = c.own_k-1 in (
-      other_a trace schedule requests k a schedule-within.result schedule-within.ensures own-k.given.0.0 own-k.given.0.1.0
-          own-k.given.0.1.1.0 own-k.given.1 (omega arith) c.if-own_a-a.true,
+    let schedule-within = c.schedule_within in (
+      other_a trace schedule requests k a schedule-within.result schedule-within.ensures c.in-Sizes.own_k c.in-Sizes.own_a
+          c.in-Sizes.next c.in-Sizes.is (omega arith) c.if-own_a-a.true,
       tt,
     )
 
@@ -40,10 +38,9 @@ run-requires c =
     let schedule = c.args.schedule.now in
     let trace = c.args.trace.now in
     let pre = c.requires in
-    let schedule-within = c.schedule_within in
-    let own-k = c.own_k-1 in (
-      first_sound trace schedule requests k a schedule-within.result schedule-within.ensures own-k.given.0.0 own-k.given.0.1.0
-          own-k.given.0.1.1.0 own-k.given.1 pre.0 pre.1,
+    let schedule-within = c.schedule_within in (
+      first_sound trace schedule requests k a schedule-within.result schedule-within.ensures c.in-Sizes.own_k c.in-Sizes.own_a
+          c.in-Sizes.next c.in-Sizes.is pre.0 pre.1,
       omega arith,
     )
 
@@ -55,10 +52,9 @@ returns-else-own_a-a c =
     let schedule = c.args.schedule.now in
     let trace = c.args.trace.now in
     let schedule-within = c.schedule_within in
-    let own-k = c.own_k-1 in
     let run = c.run in (
-      first_answer trace schedule requests k a schedule-within.result schedule-within.ensures own-k.given.0.0 own-k.given.0.1.0
-          own-k.given.0.1.1.0 own-k.given.1 [] _ (omega arith) (omega arith) run.ensures.0,
+      first_answer trace schedule requests k a schedule-within.result schedule-within.ensures c.in-Sizes.own_k c.in-Sizes.own_a
+          c.in-Sizes.next c.in-Sizes.is [] _ (omega arith) (omega arith) run.ensures.0,
       run.ensures.1,
     )
 
@@ -70,8 +66,7 @@ returns-in-Refused c =
     let schedule = c.args.schedule.now in
     let trace = c.args.trace.now in
     let schedule-within = c.schedule_within in
-    let number = c.number-1 in
-    (schedule_refused trace schedule requests k a schedule-within.result schedule-within.ensures number.given.0.0 number.given.1, tt)
+    (schedule_refused trace schedule requests k a schedule-within.result schedule-within.ensures c.in-Refused.number c.in-Refused.is, tt)
 
 pub returns-in-End : goal.returns-in-End
 returns-in-End c =
@@ -81,7 +76,7 @@ returns-in-End c =
     let schedule = c.args.schedule.now in
     let trace = c.args.trace.now in
     let schedule-within = c.schedule_within in
-    (schedule_end trace schedule requests k a schedule-within.result schedule-within.ensures c.enum_told-1.given.1, tt)
+    (schedule_end trace schedule requests k a schedule-within.result schedule-within.ensures c.in-End.is, tt)
 
 pub returns-in-Bundle : goal.returns-in-Bundle
 returns-in-Bundle c =
@@ -91,7 +86,7 @@ returns-in-Bundle c =
     let schedule = c.args.schedule.now in
     let trace = c.args.trace.now in
     let schedule-within = c.schedule_within in
-    (schedule_bundle trace schedule requests k a schedule-within.result schedule-within.ensures _ _ _ _ c.enum_told-in-Bundle-1.given.1, tt)
+    (schedule_bundle trace schedule requests k a schedule-within.result schedule-within.ensures _ _ _ _ c.in-Bundle.is, tt)
 
 pub returns-in-Fetch : goal.returns-in-Fetch
 returns-in-Fetch c =
@@ -101,4 +96,4 @@ returns-in-Fetch c =
     let schedule = c.args.schedule.now in
     let trace = c.args.trace.now in
     let schedule-within = c.schedule_within in
-    (schedule_fetch trace schedule requests k a schedule-within.result schedule-within.ensures _ _ _ c.enum_told-in-Fetch-1.given.1, tt)
+    (schedule_fetch trace schedule requests k a schedule-within.result schedule-within.ensures _ _ _ c.in-Fetch.is, tt)

@@ -8,8 +8,7 @@ many-requires c =
     let schedule = c.args.schedule.now in
     let step = c.args.step in
     let pre = c.requires in
-    let step2 = c.step-in-On-1 in
-    on_ready schedule held step step2.given.0.0 step2.given.1 pre
+    on_ready schedule held step c.in-On.place c.in-On.is pre
 
 pub returns-then-place-gt-BUFFER : goal.returns-then-place-gt-BUFFER
 returns-then-place-gt-BUFFER c =
@@ -17,8 +16,7 @@ returns-then-place-gt-BUFFER c =
     let held = c.args.held.now in
     let schedule = c.args.schedule.now in
     let step = c.args.step in
-    let step2 = c.step-in-On-1 in
-    on_reads a schedule held step c.many.result step2.given.0.0 step2.given.1 c.many.ensures
+    on_reads a schedule held step c.many.result c.in-On.place c.in-On.is c.many.ensures
 
 pub returns-in-Stop : goal.returns-in-Stop
 returns-in-Stop c =
@@ -26,8 +24,7 @@ returns-in-Stop c =
     let held = c.args.held.now in
     let schedule = c.args.schedule.now in
     let step = c.args.step in
-    let step' = c.step-1 in
-    stop_reads a schedule held step step'.given.0.0 step'.given.1
+    stop_reads a schedule held step c.in-Stop.number c.in-Stop.is
 
 pub returns-else-place-gt-BUFFER : goal.returns-else-place-gt-BUFFER
 returns-else-place-gt-BUFFER c =
@@ -36,6 +33,5 @@ returns-else-place-gt-BUFFER c =
     let schedule = c.args.schedule.now in
     let step = c.args.step in
     let pre = c.requires in
-    let step2 = c.step-in-On-1 in
-    on_reads a schedule held step _ step2.given.0.0 step2.given.1
-    (nothing_read a schedule held step2.given.0.0 (on_ready schedule held step step2.given.0.0 step2.given.1 pre))
+    on_reads a schedule held step _ c.in-On.place c.in-On.is
+    (nothing_read a schedule held c.in-On.place (on_ready schedule held step c.in-On.place c.in-On.is pre))

@@ -9,6 +9,5 @@ returns-then-own-t c =
     let schedule = c.args.schedule.now in
     let t = c.args.t in
     let schedule-within = c.schedule_within in
-    let own = c.own-1 in
-    ahead_is a schedule offset t schedule-within.result schedule-within.ensures own.given.0.0 own.given.0.1.0 own.given.0.1.1.0 own.given.1
+    ahead_is a schedule offset t schedule-within.result schedule-within.ensures c.in-Fetch.own c.in-Fetch.page c.in-Fetch.next c.in-Fetch.is
     c.if-own-t.true

@@ -17,10 +17,10 @@ loop-page-init c =
     reads_none a schedule held place marks pre.0 pre.1 pre.2
 
 pub overflow_mul-fetches : goal.overflow_mul-fetches
-overflow_mul-fetches c = let i = c.loop-page.invariant.inside in omega arith
+overflow_mul-fetches c = omega arith
 
 pub overflow_add-from : goal.overflow_add-from
-overflow_add-from c = let i = c.loop-page.invariant.inside in omega arith
+overflow_add-from c = omega arith
 
 pub known-requires : goal.known-requires
 known-requires c =
@@ -45,9 +45,8 @@ returns-then-known c =
     let inv = turn.invariant in
     let marks = turn.marks in
     let look-ahead = c.look_ahead in
-    let page = c.page-1 in
-    reads_stop a schedule held place fetches marks inv page.given.0.0
-    (ahead_page a schedule _ place.t look-ahead.result page.given.0.0 page.given.1 look-ahead.ensures)
+    reads_stop a schedule held place fetches marks inv c.in-Page.page
+    (ahead_page a schedule _ place.t look-ahead.result c.in-Page.page c.in-Page.is look-ahead.ensures)
     (sym c.if-known.true ∙ c.known.ensures)
 
 pub mark-requires : goal.mark-requires
@@ -66,9 +65,8 @@ overflow_add-fetches c =
     let inv = turn.invariant in
     let marks = turn.marks in
     let look-ahead = c.look_ahead in
-    let page = c.page-1 in
-    let i = reads_inside a schedule held place fetches marks inv page.given.0.0
-    (ahead_page a schedule _ place.t look-ahead.result page.given.0.0 page.given.1 look-ahead.ensures) in
+    let i = reads_inside a schedule held place fetches marks inv c.in-Page.page
+    (ahead_page a schedule _ place.t look-ahead.result c.in-Page.page c.in-Page.is look-ahead.ensures) in
     omega arith
 
 pub loop-page-smaller : goal.loop-page-smaller
@@ -82,9 +80,8 @@ loop-page-smaller c =
     let inv = turn.invariant in
     let marks = turn.marks in
     let look-ahead = c.look_ahead in
-    let page = c.page-1 in
-    let i = reads_inside a schedule held place fetches marks inv page.given.0.0
-    (ahead_page a schedule _ place.t look-ahead.result page.given.0.0 page.given.1 look-ahead.ensures) in
+    let i = reads_inside a schedule held place fetches marks inv c.in-Page.page
+    (ahead_page a schedule _ place.t look-ahead.result c.in-Page.page c.in-Page.is look-ahead.ensures) in
     omega arith
 
 pub loop-page-preserved : goal.loop-page-preserved
@@ -98,12 +95,11 @@ loop-page-preserved c =
     let inv = turn.invariant in
     let marks = turn.marks in
     let look-ahead = c.look_ahead in
-    let page = c.page-1 in
     let known = c.known in
     let if1 = c.if-known in
     let mark = c.mark in
-    reads_next a schedule held place fetches marks inv page.given.0.0
-    (ahead_page a schedule _ place.t look-ahead.result page.given.0.0 page.given.1 look-ahead.ensures) mark.new.marks
+    reads_next a schedule held place fetches marks inv c.in-Page.page
+    (ahead_page a schedule _ place.t look-ahead.result c.in-Page.page c.in-Page.is look-ahead.ensures) mark.new.marks
     (sym if1.false ∙ known.ensures) mark.ensures
 
 pub shape_of-marks-in-Other : goal.shape_of-marks-in-Other

@@ -16,14 +16,12 @@ returns-then-t-requests c =
 
 pub overflow_sub-requests : goal.overflow_sub-requests
 overflow_sub-requests c =
-    let pre = c.requires in
-    let d = pre.0.counted in omega arith
+    omega arith
 
 pub close_open-requires : goal.close_open-requires
 close_open-requires c =
     let pre = c.requires in
     let f = pre.0 in
-    let d = f.counted in
     let i = f.inside in let r = f.room in let z = f.started in ((z, omega arith, omega arith), (r, omega arith, i))
 
 pub returns-in-Overfull : goal.returns-in-Overfull
@@ -36,7 +34,7 @@ returns-in-Overfull c =
     let trace = c.args.trace.now in
     let pre = c.requires in
     let close_open = c.close_open in
-    (left_over k requests trace schedule held place pre.0 close_open.result close_open.new.held close_open.ensures.0 c.enum_told-1.given.1, tt)
+    (left_over k requests trace schedule held place pre.0 close_open.result close_open.new.held close_open.ensures.0 c.in-Overfull.is, tt)
 
 pub returns-in-Open : goal.returns-in-Open
 returns-in-Open c =
@@ -48,6 +46,6 @@ returns-in-Open c =
     let trace = c.args.trace.now in
     let pre = c.requires in
     let close_open = c.close_open in (
-      left_closed k requests trace schedule held place pre.0 close_open.result close_open.new.1.1.1.0 close_open.ensures.0 _ _ c.enum_told-in-Open-1.given.1,
+      left_closed k requests trace schedule held place pre.0 close_open.result close_open.new.held close_open.ensures.0 _ _ c.in-Open.is,
       few k requests trace schedule held place pre.0,
     )

@@ -6,13 +6,11 @@ use Rattle.judge.proofs.run.next_record.Goals as goal
 
 pub overflow_mul-at : goal.overflow_mul-at
 overflow_mul-at c =
-    let pre = c.requires in
-    let i = pre.0.inside in omega arith
+    omega arith
 
 pub overflow_add-at : goal.overflow_add-at
 overflow_add-at c =
-    let pre = c.requires in
-    let i = pre.0.inside in omega arith
+    omega arith
 
 pub bundle-requires : goal.bundle-requires
 bundle-requires c =
@@ -25,11 +23,9 @@ bundle-requires c =
     let trace = c.args.trace.now in
     let pre = c.requires in
     let schedule-within = c.schedule_within in
-    let t = c.t-1 in
-    let f = ev_fact k a requests trace schedule held place pre.0 schedule-within.result schedule-within.ensures t.given.0.0 t.given.0.1.0
-    t.given.0.1.1.0 t.given.0.1.1.1.0 t.given.1 in
-    let p = f.pages in
-    let b = f.behind in let i = f.inside in (pre.0, omega arith, omega arith, omega arith, omega arith)
+    let f = ev_fact k a requests trace schedule held place pre.0 schedule-within.result schedule-within.ensures c.in-Bundle.t c.in-Bundle.n
+    c.in-Bundle.from c.in-Bundle.next c.in-Bundle.is in
+    (pre.0, omega arith, omega arith, omega arith, omega arith)
 
 pub fetch-step-requires : goal.fetch-step-requires
 fetch-step-requires c =
@@ -42,9 +38,8 @@ fetch-step-requires c =
     let trace = c.args.trace.now in
     let pre = c.requires in
     let schedule-within = c.schedule_within in
-    let t2 = c.t-in-Fetch-1 in
-    let f = pf_fact k a requests trace schedule held place pre.0 schedule-within.result schedule-within.ensures t2.given.0.0 t2.given.0.1.0
-    t2.given.0.1.1.0 t2.given.1 in
+    let f = pf_fact k a requests trace schedule held place pre.0 schedule-within.result schedule-within.ensures c.in-Fetch.t c.in-Fetch.page
+    c.in-Fetch.next c.in-Fetch.is in
     let i = f.inside in (pre.0, omega arith, i, f.page_is)
 
 pub after-requires : goal.after-requires
@@ -54,7 +49,6 @@ after-requires c =
     let schedule = c.args.schedule.now in
     let trace = c.args.trace.now in
     let fetch = c.fetch-step in
-    let kept = fetch.auto.held in
     sound_ready k requests _ trace schedule fetch.new.held fetch.result fetch.ensures.1 (omega arith)
 
 pub finish-requires : goal.finish-requires
@@ -73,10 +67,9 @@ returns-in-Bundle c =
     let trace = c.args.trace.now in
     let pre = c.requires in
     let schedule-within = c.schedule_within in
-    let t = c.t-1 in
     let bundle = c.bundle in
-    rw c.turned.ensures (ev_turn k a requests trace schedule held place pre.0 schedule-within.result schedule-within.ensures t.given.0.0
-    t.given.0.1.0 t.given.0.1.1.0 t.given.0.1.1.1.0 t.given.1 bundle.result bundle.new.held bundle.ensures.0
+    rw c.turned.ensures (ev_turn k a requests trace schedule held place pre.0 schedule-within.result schedule-within.ensures c.in-Bundle.t
+    c.in-Bundle.n c.in-Bundle.from c.in-Bundle.next c.in-Bundle.is bundle.result bundle.new.held bundle.ensures.0
     bundle.ensures.1)
 
 pub returns-in-Fetch : goal.returns-in-Fetch
@@ -90,11 +83,10 @@ returns-in-Fetch c =
     let trace = c.args.trace.now in
     let pre = c.requires in
     let schedule-within = c.schedule_within in
-    let t2 = c.t-in-Fetch-1 in
     let fetch = c.fetch-step in
     let after = c.after in
-    rw c.turned-in-Fetch.ensures (pfs_turn k a requests trace schedule held place pre.0 schedule-within.result schedule-within.ensures t2.given.0.0
-    t2.given.0.1.0 t2.given.0.1.1.0 t2.given.1 fetch.result after.result fetch.new.held fetch.ensures.0 fetch.ensures.1
+    rw c.turned-in-Fetch.ensures (pfs_turn k a requests trace schedule held place pre.0 schedule-within.result schedule-within.ensures c.in-Fetch.t
+    c.in-Fetch.page c.in-Fetch.next c.in-Fetch.is fetch.result after.result fetch.new.held fetch.ensures.0 fetch.ensures.1
     after.ensures)
 
 pub returns-in-End : goal.returns-in-End
@@ -108,9 +100,8 @@ returns-in-End c =
     let trace = c.args.trace.now in
     let pre = c.requires in
     let schedule-within = c.schedule_within in
-    let enum_told = c.enum_told-1 in
     let finish = c.finish in (
-      end_turn k a requests trace schedule held place pre.0 schedule-within.result schedule-within.ensures _ enum_told.given.1 finish.ensures.0,
+      end_turn k a requests trace schedule held place pre.0 schedule-within.result schedule-within.ensures _ c.in-End.is finish.ensures.0,
       finish.ensures.1,
     )
 
@@ -125,8 +116,7 @@ returns-in-Refused c =
     let trace = c.args.trace.now in
     let pre = c.requires in
     let schedule-within = c.schedule_within in
-    let number = c.number-1 in
-    (refused_turn k a requests trace schedule held place pre.0 schedule-within.result schedule-within.ensures number.given.0.0 number.given.1, tt)
+    (refused_turn k a requests trace schedule held place pre.0 schedule-within.result schedule-within.ensures c.in-Refused.number c.in-Refused.is, tt)
 
 pub returns-in-Sizes : goal.returns-in-Sizes
 returns-in-Sizes c =
@@ -139,4 +129,4 @@ returns-in-Sizes c =
     let trace = c.args.trace.now in
     let pre = c.requires in
     let schedule-within = c.schedule_within in
-    absurd (sizes_turn k a requests trace schedule held place pre.0 schedule-within.result schedule-within.ensures _ _ _ c.enum_told-in-Sizes-1.given.1)
+    absurd (sizes_turn k a requests trace schedule held place pre.0 schedule-within.result schedule-within.ensures _ _ _ c.in-Sizes.is)

@@ -16,7 +16,7 @@ loop-next-init c =
 pub next_record-requires : goal.next_record-requires
 next_record-requires c =
     let inv = c.loop-next.invariant in
-    let l = inv.1 in (inv.0, omega arith)
+    (inv.0, omega arith)
 
 pub loop-next-smaller : goal.loop-next-smaller
 loop-next-smaller c =
@@ -27,10 +27,9 @@ loop-next-smaller c =
     let trace = c.args.trace.now in
     let place = c.loop-next.place in
     let next-record = c.next_record in
-    let next = c.next-1 in
-    let d = (run_again k a requests trace schedule next-record.new.held place next.given.0.0 next-record.result _ next.given.1
+    let d = (run_again k a requests trace schedule next-record.new.held place c.in-On.next next-record.result _ c.in-On.is
     next-record.ensures.0 next-record.ensures.1).1 in
-    let f = d.further in let i = d.sound.inside in omega arith
+    omega arith
 
 pub loop-next-preserved : goal.loop-next-preserved
 loop-next-preserved c =
@@ -43,8 +42,7 @@ loop-next-preserved c =
     let inv = turn.invariant in
     let place = turn.place in
     let next-record = c.next_record in
-    let next = c.next-1 in
-    let d = run_again k a requests trace schedule next-record.new.held place next.given.0.0 next-record.result _ next.given.1
+    let d = run_again k a requests trace schedule next-record.new.held place c.in-On.next next-record.result _ c.in-On.is
     next-record.ensures.0 next-record.ensures.1 in
     (d.1.sound, next-record.auto.held ∙ inv.1, d.0 ∙ inv.2)
 
@@ -65,7 +63,6 @@ returns-in-Done c =
     let inv = turn.invariant in
     let place = turn.place in
     let next-record = c.next_record in
-    let verdict = c.verdict-1 in
-    let d = run_done k a requests trace schedule next-record.new.held place verdict.given.0.0 next-record.result _ verdict.given.1
+    let d = run_done k a requests trace schedule next-record.new.held place c.in-Done.verdict next-record.result _ c.in-Done.is
     next-record.ensures.0 next-record.ensures.1 in
     (d.0 ∙ inv.2, d.1)

@@ -4,7 +4,7 @@ use Rattle.judge.specs.inner.Verdicts.{turn_of}
 use Rattle.judge.proofs.run.turned.Goals as goal
 
 pub returns-in-On : goal.returns-in-On
-returns-in-On c = sym (ap turn_of c.step-1.given.1)
+returns-in-On c = sym (ap turn_of c.in-On.is)
 
 pub returns-in-Stop : goal.returns-in-Stop
-returns-in-Stop c = sym (ap turn_of c.step-in-Stop-1.given.1)
+returns-in-Stop c = sym (ap turn_of c.in-Stop.is)

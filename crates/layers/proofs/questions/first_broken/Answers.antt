@@ -11,8 +11,7 @@ loop-i-init c = (omega arith, refl, omega arith, λ j h. absurd (omega arith))
 
 pub bounds-sizes-at : goal.bounds-sizes-at
 bounds-sizes-at c =
-    let pre = c.requires in
-    let l = pre.0 in omega arith
+    omega arith
 
 pub overflow_add-total : goal.overflow_add-total
 overflow_add-total c =

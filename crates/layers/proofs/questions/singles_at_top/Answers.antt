@@ -15,8 +15,7 @@ loop-i-init c =
 
 pub bounds-sizes-i : goal.bounds-sizes-i
 bounds-sizes-i c =
-    let tally = c.tally-sizes in
-    let l = tally.ensures.long in omega arith
+    omega arith
 
 pub returns-then-sizes-i-ne1 : goal.returns-then-sizes-i-ne1
 returns-then-sizes-i-ne1 c =

@@ -20,8 +20,7 @@ loop-i-init c =
 
 pub bounds-sizes-n : goal.bounds-sizes-n
 bounds-sizes-n c =
-    let inv = c.loop-i.invariant in
-    let l = inv.1.long in omega arith
+    omega arith
 
 pub overflow_add-sizes : goal.overflow_add-sizes
 overflow_add-sizes c =
@@ -44,8 +43,7 @@ overflow_add-sizes c =
 
 pub bounds-sizes-n-then-n-lt-NUMBERS : goal.bounds-sizes-n-then-n-lt-NUMBERS
 bounds-sizes-n-then-n-lt-NUMBERS c =
-    let inv = c.loop-i.invariant in
-    let l = inv.1.long in omega arith
+    omega arith
 
 pub loop-i-preserved-then-n-lt-NUMBERS : goal.loop-i-preserved-then-n-lt-NUMBERS
 loop-i-preserved-then-n-lt-NUMBERS c =

@@ -15,8 +15,7 @@ loop-i-init c =
 
 pub slice_bounds-step-end : goal.slice_bounds-step-end
 slice_bounds-step-end c =
-    let inv = c.loop-i.invariant in
-    let f = inv.2.fits in search rules
+    search rules
 
 pub slice_bounds-step-end-in-loop-i : goal.slice_bounds-step-end-in-loop-i
 slice_bounds-step-end-in-loop-i c =

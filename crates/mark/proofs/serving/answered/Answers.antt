@@ -7,18 +7,14 @@ use Rattle.mark.proofs.serving.answered.Goals as goal
 
 pub overflow_add-run-2 : goal.overflow_add-run-2
 overflow_add-run-2 c =
-    let loads = c.loads in
     let r = c.requires.0 in
     let one = bit_le (ltb 0 c.args.stepped.answer) in
-    let told = loads.ensures in
     omega (arith, r.more, r.loads_low)
 
 pub overflow_add-run-3 : goal.overflow_add-run-3
 overflow_add-run-3 c =
-    let bundles = c.bundles in
     let r = c.requires.0 in
     let one = bit_le (eqb c.args.stepped.answer 2) in
-    let told = bundles.ensures in
     omega (arith, r.more, r.loads_low, r.evictions_low)
 
 pub returns : goal.returns

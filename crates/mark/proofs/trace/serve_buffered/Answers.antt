@@ -43,9 +43,6 @@ overflow_add-loads c =
 
 pub overflow_add-i : goal.overflow_add-i
 overflow_add-i c =
-    let loop-test = c.loop-i-test in
-    let h = loop-test.taken in
-    let few = c.requires.short in
     record { fits = omega arith }
 
 pub loop-i-preserved : goal.loop-i-preserved

@@ -14,6 +14,5 @@ returns-in-Full c =
     let a = c.args.a in
     let cache = c.args.cache.now in
     let evicted = c.args.evicted.now in
-    let enum-told3 = c.enum_told-in-Full-1 in
     let copy = c.copy in
-    rw enum-told3.given.1 (bundle_copied a cache evicted _ (omega arith) (omega arith) copy.ensures)
+    rw c.in-Full.is (bundle_copied a cache evicted _ (omega arith) (omega arith) copy.ensures)

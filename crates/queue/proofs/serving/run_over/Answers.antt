@@ -34,9 +34,9 @@ loop-i-preserved c =
     let step = c.step-reply in (
       omega arith,
       (
-        step.auto.1.1.1.0 ∙ inv.1.0,
+        step.auto.cache ∙ inv.1.0,
         (
-          step.auto.1.1.1.1.0 ∙ inv.1.1.0,
+          step.auto.evicted ∙ inv.1.1.0,
           stands_next keeping k a trace i _ _ _ _ _ inv.1.1.1 (omega arith) (omega arith) step.ensures.0 step.ensures.1.0,
         ),
       ),

@@ -7,15 +7,13 @@ use Rattle.queue.proofs.serving.settle.Goals as goal
 pub load-requires : goal.load-requires
 load-requires c =
     let pre = c.requires in
-    let enum_told = c.enum_told-1 in
-    let free = pre.free enum_told.given.1 in
+    let free = pre.free c.in-Room.is in
     (pre.count_most, (pre.cache_room, (omega arith, omega arith)))
 
 pub load-requires-in-Full : goal.load-requires-in-Full
 load-requires-in-Full c =
     let pre = c.requires in
-    let enum-told2 = c.enum_told-in-Full-1 in
-    let enough = pre.enough enum-told2.given.1 in
+    let enough = pre.enough c.in-Full.is in
     (pre.count_most, (pre.cache_room, (enough.1, omega (arith, enough.0, enough.1, pre.count_most))))
 
 pub returns-in-Held : goal.returns-in-Held
@@ -26,19 +24,16 @@ returns-in-Held c =
     let a = c.args.a in
     let page = c.args.page in
     let cache = c.args.cache.now in
-    let found = c.found-1 in
     let moved-from = c.moved_from in
     let hit = c.hit in
-    hit_settled keeping _ _ _ n k a page cache _ found.given.1 moved-from.ensures hit.ensures
+    hit_settled keeping _ _ _ n k a page cache _ c.in-Held.is moved-from.ensures hit.ensures
 
 pub returns-in-Room : goal.returns-in-Room
 returns-in-Room c =
-    let enum_told = c.enum_told-1 in
     let load = c.load in
-    rw enum_told.given.1 load.ensures
+    rw c.in-Room.is load.ensures
 
 pub returns-in-Full : goal.returns-in-Full
 returns-in-Full c =
-    let enum-told2 = c.enum_told-in-Full-1 in
     let load2 = c.load-in-Full in
-    rw enum-told2.given.1 load2.ensures
+    rw c.in-Full.is load2.ensures
