@@ -10,8 +10,8 @@ returns-then-no-ne0 c =
     let numbers = c.args.numbers.now in
     let pages = c.args.pages.now in
     let trace = c.args.trace.now in
-    let early_refusal_lem = c.early_refusal-no in
-    let z = over_early k a trace pages numbers _ early_refusal_lem.ensures c.if-no-ne0.true in
+    let early-refusal = c.early_refusal-no in
+    let z = over_early k a trace pages numbers _ early-refusal.ensures c.if-no-ne0.true in
     (c.refused_totals.ensures ∙ z.0, z.1, z.2)
 
 pub serve_all-served-requires : goal.serve_all-served-requires
@@ -21,9 +21,9 @@ serve_all-served-requires c =
     let numbers = c.args.numbers.now in
     let pages = c.args.pages.now in
     let trace = c.args.trace.now in
-    let early_refusal_lem = c.early_refusal-no in
+    let early-refusal = c.early_refusal-no in
     let if1 = c.if-no-ne0 in
-    serve_ready k a trace pages numbers (sym if1.false ∙ early_refusal_lem.ensures)
+    serve_ready k a trace pages numbers (sym if1.false ∙ early-refusal.ensures)
 
 pub returns-then-served : goal.returns-then-served
 returns-then-served c =
@@ -32,12 +32,12 @@ returns-then-served c =
     let numbers = c.args.numbers.now in
     let pages = c.args.pages.now in
     let trace = c.args.trace.now in
-    let early_refusal_lem = c.early_refusal-no in
+    let early-refusal = c.early_refusal-no in
     let if1 = c.if-no-ne0 in
     let serve-all = c.serve_all-served in
     let if2 = c.if-served in
     let clear = c.clear in
-    let z = over_full k a trace pages numbers (sym if1.false ∙ early_refusal_lem.ensures) serve-all.result serve-all.new.pages
+    let z = over_full k a trace pages numbers (sym if1.false ∙ early-refusal.ensures) serve-all.result serve-all.new.pages
     serve-all.new.numbers serve-all.ensures _ _ _ _ if2.true serve-all.auto.pages serve-all.auto.numbers clear.ensures.0
     clear.ensures.1 in
     (c.refused_totals-then-served.ensures ∙ z.0, z.1, z.2)
@@ -49,10 +49,10 @@ singles_at_top-requires c =
     let numbers = c.args.numbers.now in
     let pages = c.args.pages.now in
     let trace = c.args.trace.now in
-    let early_refusal_lem = c.early_refusal-no in
+    let early-refusal = c.early_refusal-no in
     let if1 = c.if-no-ne0 in
     let serve-all = c.serve_all-served in
-    s_small k a trace pages numbers (sym if1.false ∙ early_refusal_lem.ensures) serve-all.result serve-all.new.pages serve-all.new.numbers
+    s_small k a trace pages numbers (sym if1.false ∙ early-refusal.ensures) serve-all.result serve-all.new.pages serve-all.new.numbers
     serve-all.ensures c.if-served.false
 
 pub returns : goal.returns
@@ -62,9 +62,9 @@ returns c =
     let numbers = c.args.numbers.now in
     let pages = c.args.pages.now in
     let trace = c.args.trace.now in
-    let early_refusal_lem = c.early_refusal-no in
+    let early-refusal = c.early_refusal-no in
     let if1 = c.if-no-ne0 in
     let serve-all = c.serve_all-served in
     let if2 = c.if-served in
-    over_done k a trace pages numbers (sym if1.false ∙ early_refusal_lem.ensures) serve-all.result serve-all.new.pages serve-all.new.numbers
+    over_done k a trace pages numbers (sym if1.false ∙ early-refusal.ensures) serve-all.result serve-all.new.pages serve-all.new.numbers
     serve-all.ensures _ if2.false serve-all.auto.pages serve-all.auto.numbers c.singles_at_top.ensures

@@ -38,7 +38,7 @@ walk-requires c =
       short = pre.short;
       half = loop-test.true;
       halves = chain.auto.heads
-          ∙ fill-zero.kept.0
+          ∙ fill-zero.auto.pages
           ∙ pre.halves;
       places = chain.auto.before
           ∙ pre.places;

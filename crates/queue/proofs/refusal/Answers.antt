@@ -47,7 +47,7 @@ returns-else-well_formed c =
     let if1 = c.if-sizes-ne0 in
     let if2 = c.if-cache-k in
     let if3 = c.if-evicted-a in
-    let well-formed = c.well-formed in
+    let well-formed = c.well_formed-2 in
     number_formed run count cache evicted ill _ refusal.ensures if1.false if2.false if3.false _ well-formed.ensures c.if-well_formed.false
 
 pub returns-then-ill : goal.returns-then-ill
@@ -61,7 +61,7 @@ returns-then-ill c =
     let if1 = c.if-sizes-ne0 in
     let if2 = c.if-cache-k in
     let if3 = c.if-evicted-a in
-    let well-formed = c.well-formed in
+    let well-formed = c.well_formed-2 in
     let if4 = c.if-well_formed in
     number_ill run count cache evicted ill _ refusal.ensures if1.false if2.false if3.false _ well-formed.ensures if4.true c.if-ill.true
 
@@ -76,7 +76,7 @@ returns-then-run-eq-COUNTER_MAX c =
     let if1 = c.if-sizes-ne0 in
     let if2 = c.if-cache-k in
     let if3 = c.if-evicted-a in
-    let well-formed = c.well-formed in
+    let well-formed = c.well_formed-2 in
     let if4 = c.if-well_formed in
     let if5 = c.if-ill in
     number_last run count cache evicted ill _ refusal.ensures if1.false if2.false if3.false _ well-formed.ensures if4.true if5.false c.if-run-eq-COUNTER_MAX.true
@@ -92,7 +92,7 @@ returns c =
     let if1 = c.if-sizes-ne0 in
     let if2 = c.if-cache-k in
     let if3 = c.if-evicted-a in
-    let well-formed = c.well-formed in
+    let well-formed = c.well_formed-2 in
     let if4 = c.if-well_formed in
     let if5 = c.if-ill in
     number_none run count cache evicted ill _ refusal.ensures if1.false if2.false if3.false _ well-formed.ensures if4.true if5.false c.if-run-eq-COUNTER_MAX.false

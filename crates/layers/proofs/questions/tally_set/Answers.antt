@@ -32,13 +32,13 @@ overflow_add-sizes c =
     let inv = turn.invariant in
     let sizes = turn.sizes in
     let loop-test = c.loop-i-test in
-    let number_in = c.number_in in
+    let told = c.number_in in
     let wide = c.wide-n in
     let f = number_in (rows_of numbers pages) in
     omega (
       arith,
       tally_low (map f set) sizes i wide.result (map_in f set i loop-test.true) inv.1
-          (wide.ensures ∙ number_in.ensures ∙ sym (map_get f set i loop-test.true)) c.if-n-lt-NUMBERS.true,
+          (wide.ensures ∙ told.ensures ∙ sym (map_get f set i loop-test.true)) c.if-n-lt-NUMBERS.true,
     )
 
 pub bounds-sizes-n-then-n-lt-NUMBERS : goal.bounds-sizes-n-then-n-lt-NUMBERS
@@ -55,12 +55,12 @@ loop-i-preserved-then-n-lt-NUMBERS c =
     let inv = turn.invariant in
     let sizes = turn.sizes in
     let loop-test = c.loop-i-test in
-    let number_in = c.number_in in
+    let told = c.number_in in
     let wide = c.wide-n in
     let f = number_in (rows_of numbers pages) in (
       omega arith,
       tally_one (map f set) sizes i wide.result (map_in f set i loop-test.true) inv.1
-          (wide.ensures ∙ number_in.ensures ∙ sym (map_get f set i loop-test.true)) c.if-n-lt-NUMBERS.true,
+          (wide.ensures ∙ told.ensures ∙ sym (map_get f set i loop-test.true)) c.if-n-lt-NUMBERS.true,
     )
 
 pub loop-i-preserved : goal.loop-i-preserved
@@ -73,12 +73,12 @@ loop-i-preserved c =
     let inv = turn.invariant in
     let sizes = turn.sizes in
     let loop-test = c.loop-i-test in
-    let number_in = c.number_in in
+    let told = c.number_in in
     let wide = c.wide-n in
     let f = number_in (rows_of numbers pages) in (
       omega arith,
       tally_skip (map f set) sizes i wide.result (map_in f set i loop-test.true) inv.1
-          (wide.ensures ∙ number_in.ensures ∙ sym (map_get f set i loop-test.true)) c.if-n-lt-NUMBERS.false,
+          (wide.ensures ∙ told.ensures ∙ sym (map_get f set i loop-test.true)) c.if-n-lt-NUMBERS.false,
     )
 
 pub returns : goal.returns

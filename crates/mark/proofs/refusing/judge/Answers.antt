@@ -89,12 +89,12 @@ returns-else-times_formed c =
     let record-formed = c.record_formed in
     let if3 = c.if-record_formed in
     let revealed = c.revealed-told in
-    let times_formed_lem = c.times_formed in
+    let times-formed = c.times_formed in
     let if6 = c.if-times_formed in
     let found6 = c.found-else-times_formed in
     let right = sizes_right _ _ (sym refusal.ensures ∙ if1.false) in
     judged_times _ _ _ right (sym if2.false ∙ lists-refused.ensures) (sym if3.true ∙ record-formed.ensures) _ revealed.ensures (sym if6.false ∙
-    times_formed_lem.ensures) _ found6.ensures
+    times-formed.ensures) _ found6.ensures
 
 pub returns-then-run-eq-COUNTER_MAX : goal.returns-then-run-eq-COUNTER_MAX
 returns-then-run-eq-COUNTER_MAX c =
@@ -108,13 +108,13 @@ returns-then-run-eq-COUNTER_MAX c =
     let if4 = c.if-buffer_formed in
     let revealed = c.revealed-told in
     let if5 = c.if-told-ne0 in
-    let times_formed_lem = c.times_formed in
+    let times-formed = c.times_formed in
     let if6 = c.if-times_formed in
     let if7 = c.if-run-eq-COUNTER_MAX in
     let found7 = c.found-then-run-eq-COUNTER_MAX in
     let right = sizes_right _ _ (sym refusal.ensures ∙ if1.false) in
     judged_last _ _ _ right (sym if2.false ∙ lists-refused.ensures) (sym if3.true ∙ record-formed.ensures) _ revealed.ensures (sym if4.true ∙
-    buffer-formed.ensures) if5.false (sym if6.true ∙ times_formed_lem.ensures) if7.true _ found7.ensures
+    buffer-formed.ensures) if5.false (sym if6.true ∙ times-formed.ensures) if7.true _ found7.ensures
 
 pub returns : goal.returns
 returns c =
@@ -128,9 +128,9 @@ returns c =
     let if4 = c.if-buffer_formed in
     let revealed = c.revealed-told in
     let if5 = c.if-told-ne0 in
-    let times_formed_lem = c.times_formed in
+    let times-formed = c.times_formed in
     let if6 = c.if-times_formed in
     let if7 = c.if-run-eq-COUNTER_MAX in
     let right = sizes_right _ _ (sym refusal.ensures ∙ if1.false) in
     judged_none _ _ _ right (sym if2.false ∙ lists-refused.ensures) (sym if3.true ∙ record-formed.ensures) _ revealed.ensures (sym if4.true ∙
-    buffer-formed.ensures) if5.false (sym if6.true ∙ times_formed_lem.ensures) (let last = if7.false in omega (arith, last))
+    buffer-formed.ensures) if5.false (sym if6.true ∙ times-formed.ensures) (let last = if7.false in omega (arith, last))
