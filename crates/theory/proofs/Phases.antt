@@ -7,7 +7,7 @@ use native.Mathlib.Omega.{arith}
 use mathlib.Core.Bool.{Bool, true, false}
 use mathlib.Core.List.{List, [], ◌∷◌, ◌++◌}
 use mathlib.Core.Logic.{◌⊎◌, inl, inr}
-use mathlib.Core.Path.{◌≡◌, refl, sym, ◌∙◌}
+use mathlib.Core.Path.{◌≡◌, refl, sym, ap, ◌∙◌}
 use lib.Dec.{eqb, leb, ltb}
 use lib.ListN.{length, length-append}
 use borrow.Author.Tests.{eqb-true}
@@ -40,6 +40,10 @@ less_than_factor : (a x Q n : ℕ) → a * x + n < a * Q → x < Q
 less_than_factor a x Q n h =
     cases (ltb x Q) (λ e. omega tests)
     (λ e. let more : a * Q ≤ a * x = mul-le-mul_left a (omega tests) in absurd (omega arith))
+
+-- a page that is p stands in front where p does
+mem_named : (q p : ℕ) (R : List ℕ) → q ≡ p → mem q (p ∷ R) ≡ true
+mem_named q p R e = ap (λ (x : ℕ). mem x (p ∷ R)) e ∙ mem_here p R
 
 -- the two phases
 pub record Confined (Q : ℕ) (R pages : List ℕ) (e E : ℕ) : Type 0 where
@@ -93,7 +97,7 @@ module _ (k a Q : ℕ) (pos : 1 ≤ a) (covers : k ≤ a * Q) where
             same (P.guards x),
             count_members (P.guards x) (P.guards y) (P.pages y) S.keeps,
           );
-          within = λ q g. split (S.guards_only q g) (λ h. or_r _ _ (c.within q h)) (λ h. rw h (mem_here p R));
+          within = λ q g. split (S.guards_only q g) (λ h. or_r _ _ (c.within q h)) (λ h. mem_named _ p R h);
         }))
 
     -- p is loaded, and protected, beside what stays of the protected pages
@@ -113,10 +117,10 @@ module _ (k a Q : ℕ) (pos : 1 ≤ a) (covers : k ≤ a * Q) where
     loaded_within : (rest : List ℕ) → Same (P.pages y) (rest ++ (p ∷ [])) → ((q : ℕ) → mem q rest ≡ true → mem q R ≡ true) → (q : ℕ)
         → mem q (P.pages y) ≡ true → mem q (p ∷ R) ≡ true
     loaded_within rest same h q i =
-        split (mem_snoc_split q p rest (sym (mem_same (P.pages y) (rest ++ (p ∷ [])) same q) ∙ i)) (λ g. or_r _ _ (h q g)) (λ g. rw g (mem_here p R))
+        split (mem_snoc_split q p rest (sym (mem_same (P.pages y) (rest ++ (p ∷ [])) same q) ∙ i)) (λ g. or_r _ _ (h q g)) (λ g. mem_named _ p R g)
 
     guards_within : ((q : ℕ) → P.guards x q ≡ true → mem q R ≡ true) → (q : ℕ) → P.guards y q ≡ true → mem q (p ∷ R) ≡ true
-    guards_within h q g = split (S.guards_only q g) (λ i. or_r _ _ (h q i)) (λ i. rw i (mem_here p R))
+    guards_within h q g = split (S.guards_only q g) (λ i. or_r _ _ (h q i)) (λ i. mem_named _ p R i)
 
     length_loaded : (rest : List ℕ) → Same (P.pages y) (rest ++ (p ∷ [])) → length (P.pages y) ≡ length rest + 1
     length_loaded rest same = length_same (P.pages y) (rest ++ (p ∷ [])) same ∙ length-append rest (p ∷ [])
@@ -150,8 +154,8 @@ module _ (k a Q : ℕ) (pos : 1 ≤ a) (covers : k ≤ a * Q) where
           count_incl g (λ q. true) both M (once_snoc p (P.pages x) A.once m)
               (λ q i t. (
                 since q (split (or_split _ _ t)
-                    (λ t'. split (mem_snoc_split q p (P.pages x) i) (λ j. or_r _ _ (h q j t')) (λ j. rw j (mem_here p R)))
-                    (λ t'. rw (eqb-true q p t') (mem_here p R))),
+                    (λ t'. split (mem_snoc_split q p (P.pages x) i) (λ j. or_r _ _ (h q j t')) (λ j. mem_named _ p R j))
+                    (λ t'. mem_named q p R (eqb-true q p t'))),
                 refl,
               )),
         )
@@ -186,6 +190,6 @@ module _ (k a Q : ℕ) (pos : 1 ≤ a) (covers : k ≤ a * Q) where
         let few = few_since M most since (P.guards x) (λ q i g. c.within q g) m in
         let less : c.x < Q = less_than_factor a c.x Q 0 (omega (arith, c.weighed)) in
         inl (record {
-          within = λ q i. split (took q i) (λ g. or_r _ _ (c.within q g)) (λ g. rw g (mem_here p R));
+          within = λ q i. split (took q i) (λ g. or_r _ _ (c.within q g)) (λ g. mem_named _ p R g);
           paid = omega (arith, c.paid);
         })))
