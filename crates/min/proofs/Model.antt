@@ -3,7 +3,7 @@ use Prim.Native.Nat.{ℕ, zero, suc, ◌*◌, ◌-◌, ◌<◌}
 use native.Mathlib.Omega.{arith}
 use mathlib.Core.Bool.{true, false, false≢true}
 use mathlib.Core.List.{List, [], ◌∷◌, ◌++◌, map, append-nil}
-use mathlib.Core.Path.{◌≡◌, refl, sym, ◌∙◌, ap}
+use mathlib.Core.Path.{◌≡◌, refl, sym, ◌∙◌, ap, subst}
 use lib.Dec.{ltb, eqb}
 use lib.ListN.{length, take, drop, get_or, length-append, length-map}
 use lib.Seq.{get_or_at, take_at}
@@ -40,6 +40,15 @@ once_absent p l o =
     (λ m. absurd (omega (arith, o p, bit_true (eqb p p) (eqb_self p), count_some (eqb p) p l m (eqb_self p))))
     (λ m. m)
 
+-- the requested page, where it is held first, is the last of the sorted keys
+held_first : (p : ℕ) (later : List ℕ) {l : List ℕ} → Pages l → Once (p ∷ l)
+    → sort (map (key (p ∷ later)) (p ∷ l)) ≡ sort (map (key later) (without p (p ∷ l))) ++ (key (p ∷ later) p ∷ [])
+held_first p later {l} g o =
+    let n = once_absent p l o in
+    let w : without p (p ∷ l) ≡ without p l = rw (eqb_self p) in
+    insert_last (suc (length later)) (key (p ∷ later) p) (near_now p later) (below_sort less_near (keys_below p later g n))
+    ∙ ap (λ (x : List ℕ). sort x ++ (key (p ∷ later) p ∷ [])) (keys_other p later l n ∙ ap (map (key later)) (sym (w ∙ without_absent p l n)))
+
 -- the requested page, where it is held, is the last of the sorted keys
 held_last : (p : ℕ) (later : List ℕ) {held : List ℕ} → Pages held → Once held → mem p held ≡ true
     → sort (map (key (p ∷ later)) held) ≡ sort (map (key later) (without p held)) ++ (key (p ∷ later) p ∷ [])
@@ -47,10 +56,9 @@ held_last p later none o h = absurd (false≢true h)
 held_last p later (also {x = q} {l = l} b g) o h =
     cases (eqb p q)
     (λ e.
-    let f : q ≡ p = sym (eqb-true p q e) in
-    let n = once_absent p l (rw f at o) in
-    rw (e, f, without_absent p l n, ← keys_other p later l n)
-    (insert_last (suc (length later)) (key (p ∷ later) p) (near_now p later) (below_sort less_near (keys_below p later g n))))
+    let f : p ≡ q = eqb-true p q e in
+    subst (λ (x : ℕ). sort (map (key (p ∷ later)) (x ∷ l)) ≡ sort (map (key later) (without p (x ∷ l))) ++ (key (p ∷ later) p ∷ [])) f
+    (held_first p later g (subst (λ (x : ℕ). Once (x ∷ l)) (sym f) o)))
     (λ e.
     let f : mem p l ≡ true = cases (mem p l) (λ m. m) (λ m. clash (mem p (q ∷ l)) h (or_none _ _ e m)) in
     rw e

@@ -53,9 +53,9 @@ load-requires c =
 pub wipe-requires-then-n-k : goal.wipe-requires-then-n-k
 wipe-requires-then-n-k c =
     let cleared = c.clear_marks in
-    let kept = c.load.auto.1.1.1 in
+    let kept = c.load.auto in
     wipe_ready c.requires cleared.new.marks cleared.auto.marks (omega arith)
-    kept.0 kept.1.0 kept.1.1.0
+    kept.cache kept.marks kept.priorities
 
 pub shape_of-cache-then-n-k : goal.shape_of-cache-then-n-k
 shape_of-cache-then-n-k c =
@@ -88,17 +88,17 @@ bundle-requires c =
 pub load-requires-2 : goal.load-requires-2
 load-requires-2 c =
     let cleared = c.clear_marks in
-    let kept = c.bundle.auto.1.1 in
+    let kept = c.bundle.auto in
     rest_ready c.requires cleared.new.marks cleared.auto.marks
-    c.if-n-k.false c.bundle.ensures kept.0 kept.1.0 kept.1.1.0
+    c.if-n-k.false c.bundle.ensures kept.cache kept.marks kept.priorities
 
 pub wipe-requires-2 : goal.wipe-requires-2
 wipe-requires-2 c =
     let cleared = c.clear_marks in
-    let kept = c.load-2.auto.1.1.1 in
-    let left = c.bundle.auto.1.1 in
+    let kept = c.load-2.auto in
+    let left = c.bundle.auto in
     wipe_ready c.requires cleared.new.marks cleared.auto.marks (omega arith)
-    (kept.0 ∙ left.0) (kept.1.0 ∙ left.1.0) (kept.1.1.0 ∙ left.1.1.0)
+    (kept.cache ∙ left.cache) (kept.marks ∙ left.marks) (kept.priorities ∙ left.priorities)
 
 pub shape_of-cache : goal.shape_of-cache
 shape_of-cache c =

@@ -34,12 +34,12 @@ loop-s-init c =
 pub overflow_cast-high : goal.overflow_cast-high
 overflow_cast-high c =
     let s = c.loop-s.s in
-    omega (arith, c.shared_slice_known-in-loop-s-1.given (s - 1))
+    omega (arith, c.type_inv.trace (s - 1))
 
 pub offset_bounds-seen-high : goal.offset_bounds-seen-high
 offset_bounds-seen-high c =
     let s = c.loop-s.s in
-    omega (arith, c.shared_slice_known-in-loop-s-1.given (s - 1))
+    omega (arith, c.type_inv.trace (s - 1))
 
 pub bounds-seen-high : goal.bounds-seen-high
 bounds-seen-high c =
@@ -47,7 +47,7 @@ bounds-seen-high c =
     let turn = c.loop-s in
     let inv = turn.invariant in
     let s = turn.s in
-    omega (arith, c.shared_slice_known-in-loop-s-1.given (s - 1), pre.table, inv.0)
+    omega (arith, c.type_inv.trace (s - 1), pre.table, inv.0)
 
 pub told-requires : goal.told-requires
 told-requires c =
@@ -55,13 +55,12 @@ told-requires c =
     let turn = c.loop-s in
     let inv = turn.invariant in
     let s = turn.s in
-    inv.1.1.1.1.near (page_at trace (s - 1) / 65536) (omega (arith, c.shared_slice_known-in-loop-s-1.given (s - 1)))
+    inv.1.1.1.1.near (page_at trace (s - 1) / 65536) (omega (arith, c.type_inv.trace (s - 1)))
 
 pub offset_bounds-seen-high-in-loop-s : goal.offset_bounds-seen-high-in-loop-s
 offset_bounds-seen-high-in-loop-s c =
     let s = c.loop-s.s in
-    let shared-slice-known5 = c.shared_slice_known-in-loop-s-1 in
-    omega (arith, shared-slice-known5.given (s - 1))
+    omega (arith, c.type_inv.trace (s - 1))
 
 pub bounds-seen-high-in-loop-s : goal.bounds-seen-high-in-loop-s
 bounds-seen-high-in-loop-s c =
@@ -69,8 +68,7 @@ bounds-seen-high-in-loop-s c =
     let turn = c.loop-s in
     let inv = turn.invariant in
     let s = turn.s in
-    let shared-slice-known5 = c.shared_slice_known-in-loop-s-1 in
-    omega (arith, shared-slice-known5.given (s - 1), pre.table, inv.0)
+    omega (arith, c.type_inv.trace (s - 1), pre.table, inv.0)
 
 pub loop-s-smaller : goal.loop-s-smaller
 loop-s-smaller c =
@@ -84,10 +82,9 @@ loop-s-smaller c =
     let lefts = turn.lefts in
     let s' = turn.s in
     let seen = turn.seen in
-    let shared-slice-known5 = c.shared_slice_known-in-loop-s-1 in
     let told = c.told in
     let s = s' in
-    let b = shared-slice-known5.given (s - 1) in
+    let b = c.type_inv.trace (s - 1) in
     let inv = inv' in
     (next c₀ s told.result trace heads before seen lefts pre.half pre.chained inv.1.1.1.1 (search rules) inv.1.1.0 inv.1.1.1.0 (omega (arith, b))
     (omega (arith, pre.room, inv.1.0)) (omega (arith, pre.table, inv.0)) told.ensures).0
@@ -104,10 +101,9 @@ loop-s-preserved c =
     let lefts = turn.lefts in
     let s' = turn.s in
     let seen = turn.seen in
-    let shared-slice-known5 = c.shared_slice_known-in-loop-s-1 in
     let told = c.told in
     let s = s' in
-    let b = shared-slice-known5.given (s - 1) in
+    let b = c.type_inv.trace (s - 1) in
     let inv = inv' in
     let n = next c₀ s told.result trace heads before seen lefts pre.half pre.chained inv.1.1.1.1 (search rules) inv.1.1.0 inv.1.1.1.0
     (omega (arith, b)) (omega (arith, pre.room, inv.1.0)) (omega (arith, pre.table, inv.0)) told.ensures in

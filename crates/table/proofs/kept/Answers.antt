@@ -25,7 +25,7 @@ loop-i-preserved c =
     let loop = c.loop-i in
     let lost = c.lost-most in
     let one = byte_one (not (eqb (get_or args.pages.now loop.i 0) args.change.page) && ltb lost.result (get_or args.numbers.now loop.i 0)) in
-    let small = c.shared_slice_known-2-1.given loop.i in (
+    let small = c.type_inv.numbers loop.i in (
       omega arith,
       omega arith,
       kept_next args.change args.numbers.now args.pages.now loop.i loop.n lost.result c.requires c.loop-i-test.true

@@ -18,9 +18,8 @@ returns-then-n-pages c =
     let rule-for = c.rule_for-rule in
     let change-for = c.change_for-change in
     let kept = c.kept-n in
-    let known = c.slice_known-2-1 in
     step_full change-for.result rule-for.result args.k args.a number_in.result args.s args.page (length args.pages.now) kept.result
-    args.numbers.now args.pages.now c.requires.0 (λ j. let h = known.given j in omega arith) change-for.ensures number_in.ensures rule-for.ensures
+    args.numbers.now args.pages.now c.requires.0 (λ j. search rules) change-for.ensures number_in.ensures rule-for.ensures
     kept.ensures c.if-n-pages.true
 
 pub returns : goal.returns
@@ -30,10 +29,9 @@ returns c =
     let rule-for = c.rule_for-rule in
     let change-for = c.change_for-change in
     let kept = c.kept-n in
-    let known = c.slice_known-2-1 in
     let if1 = c.if-n-pages in
     let top-after = c.top_after-top in
     let serve = c.serve in
     step_served change-for.result rule-for.result args.k args.a number_in.result args.s args.page (length args.pages.now) kept.result
-    args.numbers.now args.pages.now c.requires.0 (λ j. let h = known.given j in omega arith) change-for.ensures number_in.ensures rule-for.ensures
+    args.numbers.now args.pages.now c.requires.0 (λ j. search rules) change-for.ensures number_in.ensures rule-for.ensures
     kept.ensures _ _ if1.false top-after.ensures serve.ensures

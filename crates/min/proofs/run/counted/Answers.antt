@@ -17,9 +17,8 @@ returns c =
     let k = c.args.k in
     let trace = c.args.trace.now in
     let pre = c.requires in
-    let shared-slice-known = c.shared_slice_known-1 in
     let fill-lefts = c.fill_lefts in
-    let pages = at_below {n = 4294967296} trace (λ i h. omega (arith, shared-slice-known.given i)) in
+    let pages = at_below {n = 4294967296} trace (λ i h. omega (arith, c.type_inv.trace i)) in
     record {
       ready = record { sizes = pre.sizes; short = pre.short; filled = fill-lefts.ensures };
       best = c.pass.ensures.0

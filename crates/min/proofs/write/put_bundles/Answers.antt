@@ -120,15 +120,13 @@ loop-t-smaller c = omega arith
 
 pub loop-t-preserved : goal.loop-t-preserved
 loop-t-preserved c =
-    let start = c
-    in
-    let a = start.args.a in
-    let from = start.args.from in
-    let k = start.args.k in
-    let lefts = start.args.lefts.now in
-    let out₀ = start.args.out.now in
-    let trace = start.args.trace.now in
-    let pre = start.pre in
+    let a = c.args.a in
+    let from = c.args.from in
+    let k = c.args.k in
+    let lefts = c.args.lefts.now in
+    let out₀ = c.args.out.now in
+    let trace = c.args.trace.now in
+    let pre = c.requires in
     let turn = c.loop-t in
     let offset = turn.at in
     let held = turn.held in

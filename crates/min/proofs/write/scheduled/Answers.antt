@@ -16,9 +16,8 @@ schedule_length-size-requires c =
     let k = c.args.k in
     let trace = c.args.trace.now in
     let pre = c.requires in
-    let shared-slice-known = c.shared_slice_known-1 in
     let counted = c.counted-all in
-    let pages = at_below {n = 4294967296} trace (λ i h. omega (arith, shared-slice-known.given i)) in
+    let pages = at_below {n = 4294967296} trace (λ i h. omega (arith, c.type_inv.trace i)) in
     (omega (arith, pre.sizes.a_high, pre.sizes.k_high), omega (arith, counted.ensures.best, best_few k a pages, pre.short))
 
 pub returns-then-out-size : goal.returns-then-out-size
@@ -28,10 +27,9 @@ returns-then-out-size c =
     let out = c.args.out.now in
     let trace = c.args.trace.now in
     let pre = c.requires in
-    let shared-slice-known = c.shared_slice_known-1 in
     let counted = c.counted-all in
     let schedule-length = c.schedule_length-size in
-    let pages = at_below {n = 4294967296} trace (λ i h. omega (arith, shared-slice-known.given i)) in
+    let pages = at_below {n = 4294967296} trace (λ i h. omega (arith, c.type_inv.trace i)) in
     let size = schedule_length_is k a schedule-length.result counted.result.bundles trace pre.sizes.a_high schedule-length.ensures counted.ensures.best in
     scheduled_few k a trace out (omega (arith, c.if-out-size.true))
 
@@ -52,12 +50,11 @@ put_bundles-requires c =
     let out = c.args.out.now in
     let trace = c.args.trace.now in
     let pre = c.requires in
-    let shared-slice-known = c.shared_slice_known-1 in
     let counted = c.counted-all in
     let schedule-length = c.schedule_length-size in
     let if1 = c.if-out-size in
     let ka = c.ka-from in
-    let pages = at_below {n = 4294967296} trace (λ i h. omega (arith, shared-slice-known.given i)) in
+    let pages = at_below {n = 4294967296} trace (λ i h. omega (arith, c.type_inv.trace i)) in
     let size = schedule_length_is k a schedule-length.result counted.result.bundles trace pre.sizes.a_high schedule-length.ensures counted.ensures.best in
     (counted.ensures.ready, evs_fit k a ka.result trace out ka.new.rest ka.new.rest pages (omega (arith, if1.false)) ka.ensures.0 ka.ensures.1)
 
@@ -68,13 +65,12 @@ returns c =
     let out = c.args.out.now in
     let trace = c.args.trace.now in
     let pre = c.requires in
-    let shared-slice-known = c.shared_slice_known-1 in
     let counted = c.counted-all in
     let schedule-length = c.schedule_length-size in
     let if1 = c.if-out-size in
     let ka = c.ka-from in
     let put-bundles = c.put_bundles in
-    let pages = at_below {n = 4294967296} trace (λ i h. omega (arith, shared-slice-known.given i)) in
+    let pages = at_below {n = 4294967296} trace (λ i h. omega (arith, c.type_inv.trace i)) in
     let size = schedule_length_is k a schedule-length.result counted.result.bundles trace pre.sizes.a_high schedule-length.ensures counted.ensures.best in
     scheduled_whole k a counted.result.bundles counted.result.loads schedule-length.result trace out put-bundles.new.out
     counted.ensures.best counted.ensures.loaded size if1.false

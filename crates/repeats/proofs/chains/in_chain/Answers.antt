@@ -17,7 +17,7 @@ bounds-before-place c =
 pub overflow_cast-link-in-loop-link : goal.overflow_cast-link-in-loop-link
 overflow_cast-link-in-loop-link c =
     let link = c.loop-link.link in
-    omega (arith, c.shared_slice_known-1.given (link - 1))
+    omega (arith, c.type_inv.before (link - 1))
 
 pub bounds-pages-place : goal.bounds-pages-place
 bounds-pages-place c =
