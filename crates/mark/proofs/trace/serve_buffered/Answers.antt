@@ -23,7 +23,7 @@ returns-then-stepped c =
     let loop-test = c.loop-i-test in
     let step = c.step-stepped in
     let if1 = c.if-stepped in
-    tracing_full _ _ _ _ _ _ _ _ _ loop.inv.7 loop-test.taken _ step.result step.ensures _ _ refl if1.true
+    tracing_full _ _ _ _ _ _ _ _ _ loop.invariant.7 loop-test.true _ step.result step.ensures _ _ refl if1.true
 
 pub overflow_add-bundles : goal.overflow_add-bundles
 overflow_add-bundles c =
@@ -31,7 +31,7 @@ overflow_add-bundles c =
     let loop-test = c.loop-i-test in
     let step = c.step-stepped in
     let bundles = c.bundles-bundles in
-    record { fits = bundles_fit _ _ _ _ _ _ _ _ _ loop.inv.7 loop-test.taken c.requires.short _ (eqb step.result.answer 2) bundles.ensures }
+    record { fits = bundles_fit _ _ _ _ _ _ _ _ _ loop.invariant.7 loop-test.true c.requires.short _ (eqb step.result.answer 2) bundles.ensures }
 
 pub overflow_add-loads : goal.overflow_add-loads
 overflow_add-loads c =
@@ -39,7 +39,7 @@ overflow_add-loads c =
     let loop-test = c.loop-i-test in
     let step = c.step-stepped in
     let loads = c.loads-loads in
-    record { fits = loads_fit _ _ _ _ _ _ _ _ _ loop.inv.7 loop-test.taken c.requires.short _ (ltb 0 step.result.answer) loads.ensures }
+    record { fits = loads_fit _ _ _ _ _ _ _ _ _ loop.invariant.7 loop-test.true c.requires.short _ (ltb 0 step.result.answer) loads.ensures }
 
 pub overflow_add-i : goal.overflow_add-i
 overflow_add-i c =
@@ -53,14 +53,14 @@ loop-i-preserved c =
     let if1 = c.if-stepped in
     let bundles = c.bundles-bundles in
     let loads = c.loads-loads in (
-      step.auto.cache ∙ loop.inv.0,
-      step.auto.marks ∙ loop.inv.1,
-      step.auto.priorities ∙ loop.inv.2,
-      step.auto.evicted ∙ loop.inv.3,
-      step.auto.pages ∙ loop.inv.4,
-      step.auto.numbers ∙ loop.inv.5,
-      step.auto.times ∙ loop.inv.6,
-      tracing_next _ _ _ _ _ _ _ _ _ loop.inv.7 loop-test.taken _ step.result step.ensures if1.false c.requires.short _ _ bundles.ensures loads.ensures step.auto.evicted,
+      step.auto.cache ∙ loop.invariant.0,
+      step.auto.marks ∙ loop.invariant.1,
+      step.auto.priorities ∙ loop.invariant.2,
+      step.auto.evicted ∙ loop.invariant.3,
+      step.auto.pages ∙ loop.invariant.4,
+      step.auto.numbers ∙ loop.invariant.5,
+      step.auto.times ∙ loop.invariant.6,
+      tracing_next _ _ _ _ _ _ _ _ _ loop.invariant.7 loop-test.true _ step.result step.ensures if1.false c.requires.short _ _ bundles.ensures loads.ensures step.auto.evicted,
     )
 
 pub returns : goal.returns

@@ -54,10 +54,10 @@ loop-i-preserved c =
     let whole-answer = c.whole_answer-answer in
     let bundles = c.bundles-bundles in
     let loads = c.loads-loads in (
-      advance.auto.pages ∙ loop.inv.0,
-      advance.auto.numbers ∙ loop.inv.1,
-      advance.auto.times ∙ loop.inv.2,
-      unkept_next _ _ _ _ _ _ _ _ loop.inv.3 loop-test.taken _ _ _ advance.result advance.ensures if1.false c.requires.short
+      advance.auto.pages ∙ loop.invariant.0,
+      advance.auto.numbers ∙ loop.invariant.1,
+      advance.auto.times ∙ loop.invariant.2,
+      unkept_next _ _ _ _ _ _ _ _ loop.invariant.3 loop-test.true _ _ _ advance.result advance.ensures if1.false c.requires.short
           whole-answer.result _ _ whole-answer.ensures bundles.ensures loads.ensures,
     )
 
