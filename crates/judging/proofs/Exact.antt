@@ -7,17 +7,56 @@ use native.Mathlib.Omega.{arith}
 use mathlib.Core.Bool.{Bool, true, false, not}
 use mathlib.Core.List.{List, [], ◌∷◌, ◌++◌, append-nil, append_assoc}
 use mathlib.Core.Logic.{◌⊎◌, inl, inr, ◌↔◌}
-use mathlib.Core.Path.{◌≡◌, refl, sym, ap, ◌∙◌}
+use mathlib.Core.Path.{◌≡◌, refl, sym, ap, ◌∙◌, subst}
 use lib.Dec.{eqb, leb, ltb}
 use lib.ListN.{length}
 use borrow.Author.Tests.{not-true, not-false}
 use Rattle.lists.specs.Choice.{◌and◌, ◌or◌}
 use Rattle.lists.specs.Pages.{mem, erase_all}
-use Rattle.lists.proofs.Choice.{cases, split, clash, tests, and_l, and_r, and_i, eqb_self, or_none, or_none_l, or_none_r}
+use Rattle.lists.proofs.Choice.{cases, split, clash, tests, and_l, and_r, and_i, eqb_self, or_none, or_none_l, or_none_r, pick_true, pick_false}
 use Rattle.paging.specs.Schedule.{Entry, ev, pf, Turn, time_of, held_in_turn, bundle_legal, with_page, legal, fetches_at, turns_from, follows, in_order, within, serves, entries_cost}
 use Rattle.judging.specs.Answer.{cost, refused}
-use Rattle.judging.specs.Judging.{Standing, stands_first, Step, on, stop, Closed, closed, overfull, closing, acted, stepped, ended, judged_from}
+use Rattle.judging.specs.Judging.{Standing, stands_first, Step, on, stop, Closed, closed, overfull, closing, acted, and_then, arrived, stepped, finished, ended, judged_from}
 use Rattle.judging.proofs.Order.{mark, marked, mark_time, follows_time, from, from_less, ordered_from, none_at, no_bundle, past_turn}
+
+-- What each step answers
+
+-- where the judge stands after an EV and after a PF
+abbrev after_ev : List ℕ → Standing → Standing
+after_ev pages s =
+    record { t = s.t; trace = s.trace; held = erase_all pages s.held; fetched = false; bundles = suc s.bundles }
+
+abbrev after_pf : ℕ → Standing → Standing
+after_pf page s =
+    record { t = s.t; trace = s.trace; held = s.held ++ (page ∷ []); fetched = true; bundles = s.bundles }
+
+-- an EV with no 6 of its own costs one bundle
+ev_taken : (u : ℕ) (pages : List ℕ) (s : Standing) → s.fetched or not (held_in_turn pages s.held) ≡ false → acted (ev u pages) s ≡ on (after_ev pages s)
+ev_taken u pages s h = pick_false _ _ _ h
+
+-- a PF with no 6 of its own is taken, however many pages are then held
+pf_taken : (u page : ℕ) (s : Standing) → mem page s.held ≡ false → acted (pf u page) s ≡ on (after_pf page s)
+pf_taken u page s h = pick_false _ _ _ h
+
+-- the entry's request is closed, or is none of the trace's
+abbrev outside : Entry → Standing → Bool
+outside e s = ltb (time_of e) s.t or leb (s.t + length s.trace) (time_of e)
+
+-- then nothing is closed on the way to it
+not_reached : (k : ℕ) (e : Entry) (s : Standing) → outside e s ≡ true → arrived k (time_of e) s ≡ stop 6
+not_reached k e s h = pick_true _ _ _ h
+
+-- what stops the judge on the way comes before what the entry does
+way_first : (k number : ℕ) (e : Entry) (s : Standing) → arrived k (time_of e) s ≡ stop number → stepped k e s ≡ stop number
+way_first k number e s h = ap (λ x. and_then x (acted e)) h
+
+-- the file's damage comes before 7 at the requests that are not closed
+damage_first : (k damage : ℕ) (s : Standing) → eqb damage 0 ≡ false → ended k damage s ≡ refused damage
+damage_first k damage s h = pick_false _ _ _ h
+
+-- with no damage every request is judged, the last too
+all_judged : (k : ℕ) (s : Standing) → ended k 0 s ≡ finished s.bundles (closing k (length s.trace) s.trace s.held)
+all_judged k s = refl
 
 -- Closing requests
 
@@ -139,7 +178,7 @@ module _ (k a : ℕ) (e : Entry) (es : List Entry) (s : Standing) (h : s.t ≤ t
       let n = time_of e - s.t in
       let here : s.t + n ≡ time_of e = omega arith in
       let self : leb (time_of e) (time_of e) ≡ true = omega tests in
-      let f : from (s.t + n) (e ∷ es) ≡ true = rw here (and_i _ _ self (ordered_from e es o)) in
+      let f : from (s.t + n) (e ∷ es) ≡ true = subst (λ x. from x (e ∷ es) ≡ true) (sym here) (and_i _ _ self (ordered_from e es o)) in
       let d = closing_legal k a n s.t s.trace s.held (e ∷ es) (omega arith) f in
       rw here at d
 
@@ -164,7 +203,7 @@ module _ (k a : ℕ) (e : Entry) (es : List Entry) (s : Standing) (h : s.t ≤ t
       let o = and_r (follows (mark s.t s.fetched) e) (in_order (e ∷ es)) g.ordered in
       record {
         ordered = rw (follows_reached s.t s.fetched e h) at g.ordered;
-        inside = rw same_end at g.inside;
+        inside = subst (λ x. within x (e ∷ es) ≡ true) same_end g.inside;
         lawful = sym (reach_same o) ∙ g.lawful;
       }
 
@@ -173,20 +212,11 @@ module _ (k a : ℕ) (e : Entry) (es : List Entry) (s : Standing) (h : s.t ≤ t
       let o = and_r (follows (mark (time_of e) (s.fetched and eqb (time_of e) s.t)) e) (in_order (e ∷ es)) g.ordered in
       record {
         ordered = rw (follows_reached s.t s.fetched e h) g.ordered;
-        inside = rw same_end g.inside;
+        inside = subst (λ x. within x (e ∷ es) ≡ true) (sym same_end) g.inside;
         lawful = reach_same o ∙ g.lawful;
       }
 
 -- The entry itself, at the open request
-
--- where the judge stands after an EV and after a PF
-abbrev after_ev : List ℕ → Standing → Standing
-after_ev pages s =
-    record { t = s.t; trace = s.trace; held = erase_all pages s.held; fetched = false; bundles = suc s.bundles }
-
-abbrev after_pf : ℕ → Standing → Standing
-after_pf page s =
-    record { t = s.t; trace = s.trace; held = s.held ++ (page ∷ []); fetched = true; bundles = s.bundles }
 
 stopped : {n : ℕ} {s : Standing} → stop n ≡ on s → ⊥
 stopped e = let z : ◌≡◌ {A = ℕ} 0 1 = cc in omega arith
@@ -216,7 +246,7 @@ module _ (k a t p : ℕ) (ps held : List ℕ) (f : Bool) (b : ℕ) (es : List En
       let held_All = and_r (leb (length pages) a) _ tail in
       let no_six : f or not (held_in_turn pages held) ≡ false = or_none _ _ free (ap not held_All) in (
         and_i _ _ (and_l _ _ bundle) (and_l (leb (length pages) a) _ tail),
-        rw no_six,
+        ev_taken t pages (at t p ps held f b) no_six,
         record {
           ordered = sym (marked (ev t pages) es) ∙ and_r (follows (mark t f) (ev t pages)) _ g.ordered;
           inside = and_r (ltb t (t + length (p ∷ ps))) _ g.inside;
@@ -230,7 +260,7 @@ module _ (k a t p : ℕ) (ps held : List ℕ) (f : Bool) (b : ℕ) (es : List En
       let o = and_r (follows (mark t f) (pf t page)) (in_order (pf t page ∷ es)) g.ordered in
       let law = sym (pf_legal k a t p page ps held es o) ∙ g.lawful in
       let absent = not-true (mem page held) (and_l (not (mem page held)) _ law) in (
-        rw absent,
+        pf_taken t page (at t p ps held f b) absent,
         record {
           ordered = sym (marked (pf t page) es) ∙ o;
           inside = and_r (ltb t (t + length (p ∷ ps))) _ g.inside;
@@ -244,7 +274,7 @@ module _ (k a t p : ℕ) (ps held : List ℕ) (f : Bool) (b : ℕ) (es : List En
       cases (f or not (held_in_turn pages held))
       (λ m. let w : stop 6 ≡ on next = rw m at q in absurd (stopped w))
       (λ m.
-      let w : next ≡ after_ev pages (at t p ps held f b) = stands (rw m at q) in
+      let w : next ≡ after_ev pages (at t p ps held f b) = stands (sym (ev_taken t pages (at t p ps held f b) m) ∙ q) in
       let v : Good k a es (after_ev pages (at t p ps held f b)) = rw w at g in
       let held_All = not-false (held_in_turn pages held) (or_none_r f _ m) in
       let law = and_i _ _ (and_i _ _ (and_l _ _ z) (and_i _ _ (and_r (leb 1 (length pages)) _ z) held_All)) v.lawful in
@@ -263,7 +293,7 @@ module _ (k a t p : ℕ) (ps held : List ℕ) (f : Bool) (b : ℕ) (es : List En
       cases (mem page held)
       (λ m. let w : stop 6 ≡ on next = rw m at q in absurd (stopped w))
       (λ m.
-      let w : next ≡ after_pf page (at t p ps held f b) = stands (rw m at q) in
+      let w : next ≡ after_pf page (at t p ps held f b) = stands (sym (pf_taken t page (at t p ps held f b) m) ∙ q) in
       let v : Good k a es (after_pf page (at t p ps held f b)) = rw w at g in
       let o = marked (pf t page) es ∙ v.ordered in (
         w,
@@ -305,9 +335,6 @@ module _ (k a p : ℕ) (ps held : List ℕ) (f : Bool) (b : ℕ) (es : List Entr
 
 -- One entry, both ways
 
-abbrev outside : Entry → Standing → Bool
-outside e s = ltb (time_of e) s.t or leb (s.t + length s.trace) (time_of e)
-
 step_good : (k a : ℕ) (e : Entry) (es : List Entry) (s : Standing) → Good k a (e ∷ es) s → Stepping k a e es s.bundles (stepped k e s)
 step_good k a e es s g =
     let after = and_l (follows (mark s.t s.fetched) e) (in_order (e ∷ es)) g.ordered in
@@ -330,7 +357,7 @@ step_back : (k a : ℕ) (e : Entry) (es : List Entry) (s next : Standing) → st
     → (next.bundles + entries_cost es ≡ s.bundles + entries_cost (e ∷ es)) × Good k a (e ∷ es) s
 step_back k a e es s next q z g =
     cases (outside e s)
-    (λ m. let w : stop 6 ≡ on next = rw m at q in absurd (stopped w))
+    (λ m. let w : stop 6 ≡ on next = sym (way_first k 6 e s (not_reached k e s m)) ∙ q in absurd (stopped w))
     (λ m.
     let early = or_none_l (ltb (time_of e) s.t) _ m in
     let late = or_none_r (ltb (time_of e) s.t) _ m in
@@ -375,14 +402,14 @@ module _ (k a : ℕ) (s : Standing) where
   end_good g =
       split (finished_or k (length s.trace) s.trace s.held refl)
       (λ q. clash _ g.lawful (rw q at end_legal))
-      (λ q. rw q.1)
+      (λ q. all_judged k s ∙ rw q.1)
 
   end_back : (c : ℕ) → ended k 0 s ≡ cost c → (c ≡ s.bundles) × Good k a [] s
   end_back c e =
       split (finished_or k (length s.trace) s.trace s.held refl)
-      (λ q. let w : refused 7 ≡ cost c = rw q at e in absurd (no_cost w))
+      (λ q. let w : refused 7 ≡ cost c = rw q at (sym (all_judged k s) ∙ e) in absurd (no_cost w))
       (λ q.
-      let w : cost s.bundles ≡ cost c = rw q.1 at e in
+      let w : cost s.bundles ≡ cost c = rw q.1 at (sym (all_judged k s) ∙ e) in
       (costs w, record { ordered = refl; inside = refl; lawful = rw q.1 at end_legal }))
 
 -- The theorem
@@ -396,7 +423,7 @@ pub no_damage : (k damage c : ℕ) (es : List Entry) (s : Standing) → judged_f
 no_damage k damage c [] s e =
     cases (eqb damage 0)
     (λ m. omega tests)
-    (λ m. let w : refused damage ≡ cost c = rw m at e in absurd (no_cost w))
+    (λ m. let w : refused damage ≡ cost c = sym (damage_first k damage s m) ∙ e in absurd (no_cost w))
 no_damage k damage c (x ∷ es) s e =
     step_or (stepped k x s)
     (λ next q. no_damage k damage c es next (rw q at e))

@@ -3,7 +3,7 @@ use Prim.Native.Nat.{ℕ, zero, suc, ◌≤◌, ◌<◌}
 use native.Mathlib.Omega.{arith}
 use mathlib.Core.Bool.{Bool, true, false}
 use mathlib.Core.List.{List, [], ◌∷◌}
-use mathlib.Core.Path.{◌≡◌, refl}
+use mathlib.Core.Path.{◌≡◌, refl, subst}
 use lib.Dec.{eqb, leb}
 use Rattle.lists.specs.Choice.{◌and◌}
 use Rattle.lists.proofs.Choice.{cases, tests, and_l, and_r, and_i}
@@ -77,7 +77,7 @@ no_bundle t page (ev u pages ∷ es) h =
 no_bundle t page (pf u q ∷ es) h =
     let d = and_l _ _ h in
     cases (eqb u t)
-    (λ m. let i = and_r _ _ h in let w = eqb_true' u t m in no_bundle t q es (rw w at i))
+    (λ m. let i = and_r _ _ h in let w = eqb_true' u t m in no_bundle t q es (subst (λ x. in_order (pf x q ∷ es) ≡ true) w i))
     (λ m. let f = from_less (suc t) u es (omega tests) (ordered_from (pf u q) es (and_r _ _ h)) in (none_at t es f).0)
   where
     eqb_true' : (u t : ℕ) → eqb u t ≡ true → u ≡ t
