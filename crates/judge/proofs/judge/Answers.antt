@@ -14,4 +14,4 @@ number-requires c =
     within_range c.answer.result (length schedule) c.answer.ensures.1 (omega arith)
 
 pub returns : goal.returns
-returns c = to_z-of_z {w = w64} (record { sfits = c.number.type-inv }) ∙ c.number.ensures ∙ ap answer_number c.answer.ensures.0
+returns c = to_z-of_z {w = w64} (record { sfits = c.number.type_inv }) ∙ c.number.ensures ∙ ap answer_number c.answer.ensures.0
