@@ -3,13 +3,14 @@
 #![tactic(auto)]
 
 use report::Report;
+use std::io::Stdout;
 use streams::Output;
 
-fn refused(out: Output, number: u32) {
+fn refused(out: Output<Stdout, HostRuntime>, number: u32) {
     out.text(b"refused").field(number).end_line();
 }
 
-fn figures(out: Output, r: Report) {
+fn figures(out: Output<Stdout, HostRuntime>, r: Report) {
     let out = out
         .text(b"trace")
         .field(r.k)
@@ -44,17 +45,18 @@ fn figures(out: Output, r: Report) {
 }
 
 // Where the input cannot be read, nothing is printed: figures of a part would be wrong.
-fn main() {
+fn main(rt: HostRuntime) {
     let mut input = [0u8; Report::INPUT];
-    let read = streams::read(&mut input);
+    let read = streams::read(&mut rt.stdin(), &rt, &mut input);
     if read.failed {
         return;
     }
     let n = read.bytes;
     let r = report::of_input(&input[..n]);
+    let out = Output::new(rt.stdout(), rt);
     if r.refusal != 0 {
-        refused(Output::new(), r.refusal);
+        refused(out, r.refusal);
     } else {
-        figures(Output::new(), r);
+        figures(out, r);
     }
 }

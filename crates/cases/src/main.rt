@@ -5,31 +5,35 @@
 use cases_rows::row::{Numbers, Row};
 use cases_rows::{row, show, text};
 
-// The longest list is a trace with one request too many.
-fn main() {
+// The longest list is a trace with one request too many. Where the input cannot be read, nothing is printed.
+fn main(rt: HostRuntime) {
     let mut input = [0u8; 65536];
-    let n = io::read_full(0, &mut input);
+    let read = streams::read(&mut rt.stdin(), &rt, &mut input);
+    if read.failed {
+        return;
+    }
+    let n = read.bytes;
     let mut first = [0u32; 65537];
     let mut second = [0u32; 65537];
     let mut third = [0u32; 65537];
-    run(&input[..n], &mut first, &mut second, &mut third);
+    run(&rt, &input[..n], &mut first, &mut second, &mut third);
 }
 
 // Each line in turn. The lists stay from row to row.
-fn run(input: &[u8], first: &mut [u32], second: &mut [u32], third: &mut [u32]) {
+fn run(rt: &impl Print, input: &[u8], first: &mut [u32], second: &mut [u32], third: &mut [u32]) {
     let mut row = Row::empty();
     let mut at = 0;
     while at < input.len() {
         let start = at;
         let end = text::find(input, start, b'\n');
         at = end + 1;
-        row = row::read(&input[start..end], row, first, second, third);
-        lend(row, first, second, third);
+        row = row::read(rt, &input[start..end], row, first, second, third);
+        lend(rt, row, first, second, third);
     }
 }
 
 // Answers a row, with the places of each list that it has.
-fn lend(row: Row, first: &mut [u32], second: &mut [u32], third: &mut [u32]) {
+fn lend(rt: &impl Print, row: Row, first: &mut [u32], second: &mut [u32], third: &mut [u32]) {
     if row.call == 0 {
         return;
     }
@@ -37,18 +41,26 @@ fn lend(row: Row, first: &mut [u32], second: &mut [u32], third: &mut [u32]) {
     let two = text::within(row.second, second);
     let three = text::within(row.third, third);
     answer(
+        rt,
         row.call,
         row.numbers,
         &mut first[..one],
         &mut second[..two],
         &mut third[..three],
     );
-    show::end();
+    show::end(rt);
 }
 
-fn answer(call: u16, n: Numbers, first: &mut [u32], second: &mut [u32], third: &mut [u32]) {
-    if cases_calls::answer(call, n, first, second, third) {
+fn answer(
+    rt: &impl Print,
+    call: u16,
+    n: Numbers,
+    first: &mut [u32],
+    second: &mut [u32],
+    third: &mut [u32],
+) {
+    if cases_calls::answer(rt, call, n, first, second, third) {
         return;
     }
-    cases_files::answer(call, n, first, second);
+    cases_files::answer(rt, call, n, first, second);
 }

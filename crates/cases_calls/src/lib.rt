@@ -48,6 +48,7 @@ const SECOND: u16 = b's' as u16 + 256 * b'e' as u16;
 
 // Makes a call, or prints a list as it now is. False where the call is none of these.
 pub fn answer(
+    rt: &impl Print,
     call: u16,
     n: Numbers,
     first: &mut [u32],
@@ -55,39 +56,46 @@ pub fn answer(
     third: &mut [u32],
 ) -> bool {
     match call {
-        MIN => traces::min(n, first),
-        LRU => traces::lru(n, first),
-        OLDEST => traces::fifo(n, first),
-        LAYERS => traces::layers(n, first, second, third),
-        STEPS => traces::steps(n, first, second, third),
-        RULES => traces::rules(n, first, second, third),
-        _ => return asked(call, n, first, second, third),
+        MIN => traces::min(rt, n, first),
+        LRU => traces::lru(rt, n, first),
+        OLDEST => traces::fifo(rt, n, first),
+        LAYERS => traces::layers(rt, n, first, second, third),
+        STEPS => traces::steps(rt, n, first, second, third),
+        RULES => traces::rules(rt, n, first, second, third),
+        _ => return asked(rt, call, n, first, second, third),
     }
     true
 }
 
 // The calls that are not on whole traces.
-fn asked(call: u16, n: Numbers, first: &mut [u32], second: &mut [u32], third: &[u32]) -> bool {
+fn asked(
+    rt: &impl Print,
+    call: u16,
+    n: Numbers,
+    first: &mut [u32],
+    second: &mut [u32],
+    third: &[u32],
+) -> bool {
     match call {
-        CACHE => requests::lru(n, first, second),
-        LOAD => requests::fifo(n, first, second),
-        CACHE_PREVIEW => requests::lru_preview(n, first, second),
-        LOAD_PREVIEW => requests::fifo_preview(n, first, second),
-        TABLE => requests::table(n, first, second),
-        REVEALED => requests::revealed(n, first, second),
-        POSSIBLE => requests::possible(n, first, second, third),
-        _ => return marked(call, n, first, second),
+        CACHE => requests::lru(rt, n, first, second),
+        LOAD => requests::fifo(rt, n, first, second),
+        CACHE_PREVIEW => requests::lru_preview(rt, n, first, second),
+        LOAD_PREVIEW => requests::fifo_preview(rt, n, first, second),
+        TABLE => requests::table(rt, n, first, second),
+        REVEALED => requests::revealed(rt, n, first, second),
+        POSSIBLE => requests::possible(rt, n, first, second, third),
+        _ => return marked(rt, call, n, first, second),
     }
     true
 }
 
 // Marking, which leaves the lists of the row as they are, and these lists.
-fn marked(call: u16, n: Numbers, first: &[u32], second: &[u32]) -> bool {
+fn marked(rt: &impl Print, call: u16, n: Numbers, first: &[u32], second: &[u32]) -> bool {
     match call {
-        MARK => marking::request(n, first, second),
-        RDM => marking::over_trace(n, first, second),
-        FIRST => show::list(first),
-        SECOND => show::list(second),
+        MARK => marking::request(rt, n, first, second),
+        RDM => marking::over_trace(rt, n, first, second),
+        FIRST => show::list(rt, first),
+        SECOND => show::list(rt, second),
         _ => return false,
     }
     true

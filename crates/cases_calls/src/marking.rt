@@ -80,9 +80,10 @@ fn part64(all: [u32; 7], which: usize, lists: &[u32]) -> [u64; 8]
 
 // A request: the places of the seven lists, the count and the page; the record; the lists. The answer is the record, the layers' record, the count and the
 // answer, then the seven lists as they now are.
-pub(crate) fn request(n: Numbers, record: &[u32], lists: &[u32]) {
+pub(crate) fn request(rt: &impl Print, n: Numbers, record: &[u32], lists: &[u32]) {
     let all = [n.0, n.1, n.2, n.3, n.4, n.5, n.6];
     serve(
+        rt,
         all,
         run(record),
         n.7,
@@ -99,6 +100,7 @@ pub(crate) fn request(n: Numbers, record: &[u32], lists: &[u32]) {
 
 // Makes the request, and lends of each list the places that it has.
 fn serve(
+    rt: &impl Print,
     all: [u32; 7],
     run: MarkRun,
     count: u32,
@@ -123,20 +125,21 @@ fn serve(
         &mut times[..places(all, 6)],
         page,
     );
-    told(reply);
-    first(cache, places(all, 0));
-    first(marks, places(all, 1));
-    first64(priorities, places(all, 2));
-    first(evicted, places(all, 3));
-    first(pages, places(all, 4));
-    first(numbers, places(all, 5));
-    first(times, places(all, 6));
+    told(rt, reply);
+    first(rt, cache, places(all, 0));
+    first(rt, marks, places(all, 1));
+    first64(rt, priorities, places(all, 2));
+    first(rt, evicted, places(all, 3));
+    first(rt, pages, places(all, 4));
+    first(rt, numbers, places(all, 5));
+    first(rt, times, places(all, 6));
 }
 
 // A whole trace: k, a and the places of the three lists of the layer table; the trace; these lists. The answer is bundles and loads, then the three lists.
-pub(crate) fn over_trace(n: Numbers, trace: &[u32], lists: &[u32]) {
+pub(crate) fn over_trace(rt: &impl Print, n: Numbers, trace: &[u32], lists: &[u32]) {
     let all = [n.2, n.3, n.4, 0, 0, 0, 0];
     serve_all(
+        rt,
         all,
         n.0,
         n.1,
@@ -148,6 +151,7 @@ pub(crate) fn over_trace(n: Numbers, trace: &[u32], lists: &[u32]) {
 }
 
 fn serve_all(
+    rt: &impl Print,
     all: [u32; 7],
     k: u32,
     a: u32,
@@ -164,52 +168,52 @@ fn serve_all(
         &mut numbers[..places(all, 1)],
         &mut times[..places(all, 2)],
     );
-    refusal(r.refusal);
-    show::list(&[r.bundles, r.loads]);
-    first(pages, places(all, 0));
-    first(numbers, places(all, 1));
-    first(times, places(all, 2));
+    refusal(rt, r.refusal);
+    show::list(rt, &[r.bundles, r.loads]);
+    first(rt, pages, places(all, 0));
+    first(rt, numbers, places(all, 1));
+    first(rt, times, places(all, 2));
 }
 
 // The first places of a list, behind another list.
-fn first(list: [u32; 8], n: usize)
+fn first(rt: &impl Print, list: [u32; 8], n: usize)
     requires { n ≤ 8 }
 {
-    behind(&list[..n]);
+    behind(rt, &list[..n]);
 }
 
-fn first64(list: [u64; 8], n: usize)
+fn first64(rt: &impl Print, list: [u64; 8], n: usize)
     requires { n ≤ 8 }
 {
-    behind64(&list[..n]);
+    behind64(rt, &list[..n]);
 }
 
 // A request's answer but for its lists.
-fn told(reply: mark::MarkReply) {
-    refusal(reply.refusal);
-    shown(reply.run);
-    behind(&[reply.count, reply.answer]);
+fn told(rt: &impl Print, reply: mark::MarkReply) {
+    refusal(rt, reply.refusal);
+    shown(rt, reply.run);
+    behind(rt, &[reply.count, reply.answer]);
 }
 
 // A refusal's number; nothing for 0.
-fn refusal(number: u32) {
+fn refusal(rt: &impl Print, number: u32) {
     if number != 0 {
-        show::refused(number);
-        show::text(b";");
+        show::refused(rt, number);
+        show::text(rt, b";");
     }
 }
 
 // A list behind another.
-fn behind(list: &[u32]) {
-    show::text(b";");
-    show::list(list);
+fn behind(rt: &impl Print, list: &[u32]) {
+    show::text(rt, b";");
+    show::list(rt, list);
 }
 
-fn behind64(list: &[u64]) {
-    show::text(b";");
+fn behind64(rt: &impl Print, list: &[u64]) {
+    show::text(rt, b";");
     let mut i = 0;
     while i < list.len() {
-        show::length(list[i] as usize);
+        show::length(rt, list[i] as usize);
         i += 1;
     }
 }
@@ -246,17 +250,23 @@ fn layers_run(n: &[u32; 14]) -> LayersRun {
     }
 }
 
-fn shown(run: MarkRun) {
-    show::list(&[run.k, run.a, run.requests, run.loads, run.evictions, run.t]);
+fn shown(rt: &impl Print, run: MarkRun) {
+    show::list(
+        rt,
+        &[run.k, run.a, run.requests, run.loads, run.evictions, run.t],
+    );
     let l = run.layers;
-    behind(&[
-        l.k,
-        l.a,
-        l.requests,
-        l.evictions,
-        l.s,
-        l.appends,
-        l.joins,
-        l.lifts,
-    ]);
+    behind(
+        rt,
+        &[
+            l.k,
+            l.a,
+            l.requests,
+            l.evictions,
+            l.s,
+            l.appends,
+            l.joins,
+            l.lifts,
+        ],
+    );
 }

@@ -38,62 +38,62 @@ pub(crate) const EV: u16 = b'e' as u16 + 256 * b'v' as u16;
 const PF: u16 = b'p' as u16 + 256 * b'f' as u16;
 
 // Makes a call on the bytes of the first list, which it may change, and of the second.
-pub fn answer(call: u16, n: Numbers, first: &mut [u32], second: &[u32]) {
+pub fn answer(rt: &impl Print, call: u16, n: Numbers, first: &mut [u32], second: &[u32]) {
     let mut one = [0u8; bytes::ROOM];
     let s = bytes::of_list(first, &mut one);
     let mut two = [0u8; bytes::ROOM];
     let t = bytes::of_list(second, &mut two);
-    on_bytes(call, n, &mut one[..s], &two[..t], second);
+    on_bytes(rt, call, n, &mut one[..s], &two[..t], second);
     bytes::into_list(&one, first);
 }
 
-fn on_bytes(call: u16, n: Numbers, file: &mut [u8], trace: &[u8], pages: &[u32]) {
+fn on_bytes(rt: &impl Print, call: u16, n: Numbers, file: &mut [u8], trace: &[u8], pages: &[u32]) {
     match call {
-        JUDGE => judged(judge::judge(trace, file)),
-        TRACE => records_read::trace(file, n.0),
-        SCHEDULE => records_read::schedule(file, n.0),
-        COUNT => records_read::count(file, n.0),
-        FARTHEST => farthest(n.0, n.1, pages, file),
-        OLD_EDITION => turned(editions::to_old(trace, file)),
-        NEW_EDITION => turned(editions::to_new(trace, file)),
-        KA | RQ | RR | EV | PF => writing::record(call, n, file, pages),
-        _ => show::text(b" no such call"),
+        JUDGE => judged(rt, judge::judge(trace, file)),
+        TRACE => records_read::trace(rt, file, n.0),
+        SCHEDULE => records_read::schedule(rt, file, n.0),
+        COUNT => records_read::count(rt, file, n.0),
+        FARTHEST => farthest(rt, n.0, n.1, pages, file),
+        OLD_EDITION => turned(rt, editions::to_old(trace, file)),
+        NEW_EDITION => turned(rt, editions::to_new(trace, file)),
+        KA | RQ | RR | EV | PF => writing::record(rt, call, n, file, pages),
+        _ => show::text(rt, b" no such call"),
     }
 }
 
 // The judge's answer: a cost, which is small here, or a refusal's number made negative.
-fn judged(answer: i64) {
+fn judged(rt: &impl Print, answer: i64) {
     match answer {
-        0 => show::figure(0),
-        1 => show::figure(1),
-        2 => show::figure(2),
-        -1 => show::refused(1),
-        -2 => show::refused(2),
-        -3 => show::refused(3),
-        -4 => show::refused(4),
-        -5 => show::refused(5),
-        -6 => show::refused(6),
-        -7 => show::refused(7),
-        -13 => show::refused(13),
-        _ => show::text(b" another answer"),
+        0 => show::figure(rt, 0),
+        1 => show::figure(rt, 1),
+        2 => show::figure(rt, 2),
+        -1 => show::refused(rt, 1),
+        -2 => show::refused(rt, 2),
+        -3 => show::refused(rt, 3),
+        -4 => show::refused(rt, 4),
+        -5 => show::refused(rt, 5),
+        -6 => show::refused(rt, 6),
+        -7 => show::refused(rt, 7),
+        -13 => show::refused(rt, 13),
+        _ => show::text(rt, b" another answer"),
     }
 }
 
 // An edition of a trace, in bytes.
-fn turned(r: Converted) {
+fn turned(rt: &impl Print, r: Converted) {
     if r.refusal != 0 {
-        show::refused(r.refusal);
+        show::refused(rt, r.refusal);
     } else {
-        show::length(r.length);
+        show::length(rt, r.length);
     }
 }
 
 // MIN's schedule of a trace, into bytes.
-fn farthest(k: u32, a: u32, trace: &[u32], out: &mut [u8]) {
+fn farthest(rt: &impl Print, k: u32, a: u32, trace: &[u32], out: &mut [u8]) {
     let r = min::schedule(k, a, trace, out);
     if r.refusal != 0 {
-        show::refused(r.refusal);
+        show::refused(rt, r.refusal);
     } else {
-        show::length(r.length);
+        show::length(rt, r.length);
     }
 }

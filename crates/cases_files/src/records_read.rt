@@ -6,66 +6,66 @@ use readers::trace::trace_at;
 use reading::{ScheduleRecord, TraceRecord};
 
 // A record of a trace at an offset, with the offset behind it.
-pub(crate) fn trace(file: &[u8], at: u32) {
+pub(crate) fn trace(rt: &impl Print, file: &[u8], at: u32) {
     let found = trace_at(file, bytes::offset(at));
     match found {
-        TraceRecord::Sizes { k, a, next } => fields(b" KA", k, a, next),
-        TraceRecord::Request { page, times, next } => request(page, times, next),
-        TraceRecord::End => show::text(b" end"),
-        TraceRecord::Refused(number) => show::refused(number),
+        TraceRecord::Sizes { k, a, next } => fields(rt, b" KA", k, a, next),
+        TraceRecord::Request { page, times, next } => request(rt, page, times, next),
+        TraceRecord::End => show::text(rt, b" end"),
+        TraceRecord::Refused(number) => show::refused(rt, number),
     }
 }
 
 // A record of a schedule at an offset, with the offset behind it; a bundle's pages start at an offset.
-pub(crate) fn schedule(file: &[u8], at: u32) {
+pub(crate) fn schedule(rt: &impl Print, file: &[u8], at: u32) {
     let found = schedule_at(file, bytes::offset(at));
     match found {
-        ScheduleRecord::Sizes { k, a, next } => fields(b" KA", k, a, next),
-        ScheduleRecord::Bundle { t, n, from, next } => bundle(t, n, from, next),
-        ScheduleRecord::Fetch { t, page, next } => fields(b" PF", t, page, next),
-        ScheduleRecord::End => show::text(b" end"),
-        ScheduleRecord::Refused(number) => show::refused(number),
+        ScheduleRecord::Sizes { k, a, next } => fields(rt, b" KA", k, a, next),
+        ScheduleRecord::Bundle { t, n, from, next } => bundle(rt, t, n, from, next),
+        ScheduleRecord::Fetch { t, page, next } => fields(rt, b" PF", t, page, next),
+        ScheduleRecord::End => show::text(rt, b" end"),
+        ScheduleRecord::Refused(number) => show::refused(rt, number),
     }
 }
 
 // So many requests for a page in a row: once in an RQ.
-fn request(page: u32, times: u16, next: usize) {
-    show::text(b" request");
-    show::figure(page);
-    show::text(b", times");
-    show::figure(times as u32);
-    behind(next);
+fn request(rt: &impl Print, page: u32, times: u16, next: usize) {
+    show::text(rt, b" request");
+    show::figure(rt, page);
+    show::text(rt, b", times");
+    show::figure(rt, times as u32);
+    behind(rt, next);
 }
 
 // A trace file read whole with a limit: k, a and the number of requests.
-pub(crate) fn count(file: &[u8], most: u32) {
+pub(crate) fn count(rt: &impl Print, file: &[u8], most: u32) {
     let told = traces::count(file, bytes::offset(most));
     if told.refusal != 0 {
-        show::refused(told.refusal);
+        show::refused(rt, told.refusal);
     } else {
-        show::figure(told.k);
-        show::figure(told.a);
-        show::length(told.requests);
+        show::figure(rt, told.k);
+        show::figure(rt, told.a);
+        show::length(rt, told.requests);
     }
 }
 
-fn fields(mark: &[u8], one: u32, two: u32, next: usize) {
-    show::text(mark);
-    show::figure(one);
-    show::figure(two);
-    behind(next);
+fn fields(rt: &impl Print, mark: &[u8], one: u32, two: u32, next: usize) {
+    show::text(rt, mark);
+    show::figure(rt, one);
+    show::figure(rt, two);
+    behind(rt, next);
 }
 
-fn bundle(t: u32, n: usize, from: usize, next: usize) {
-    show::text(b" EV");
-    show::figure(t);
-    show::length(n);
-    show::text(b", pages from");
-    show::length(from);
-    behind(next);
+fn bundle(rt: &impl Print, t: u32, n: usize, from: usize, next: usize) {
+    show::text(rt, b" EV");
+    show::figure(rt, t);
+    show::length(rt, n);
+    show::text(rt, b", pages from");
+    show::length(rt, from);
+    behind(rt, next);
 }
 
-fn behind(next: usize) {
-    show::text(b", next");
-    show::length(next);
+fn behind(rt: &impl Print, next: usize) {
+    show::text(rt, b", next");
+    show::length(rt, next);
 }

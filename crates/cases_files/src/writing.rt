@@ -6,12 +6,12 @@ use records::write;
 use records::write::Written;
 
 // Writes a record at an offset of lent bytes. The answer is the offset behind it.
-pub(crate) fn record(mark: u16, n: Numbers, out: &mut [u8], pages: &[u32]) {
+pub(crate) fn record(rt: &impl Print, mark: u16, n: Numbers, out: &mut [u8], pages: &[u32]) {
     let at = bytes::offset(n.0);
     let written = write(mark, at, n.1, n.2, out, pages);
     match written {
-        Written::Next(next) => show::length(next),
-        Written::Refused(number) => show::refused(number),
+        Written::Next(next) => show::length(rt, next),
+        Written::Refused(number) => show::refused(rt, number),
     }
 }
 

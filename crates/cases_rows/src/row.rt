@@ -54,6 +54,7 @@ impl Row {
 
 // Prints the label of the row that a line has, and reads the rest. A line with no colon is a remark.
 pub fn read(
+    rt: &impl Print,
     line: &[u8],
     before: Row,
     first: &mut [u32],
@@ -64,8 +65,8 @@ pub fn read(
     if colon == line.len() {
         return before.without_call();
     }
-    show::text(&line[..colon]);
-    show::text(b":");
+    show::text(rt, &line[..colon]);
+    show::text(rt, b":");
     behind(line, colon, before, first, second, third)
 }
 

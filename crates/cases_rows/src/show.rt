@@ -1,45 +1,41 @@
-// The answer behind a label: figures, or `refused` and the refusal's number.
-const OUT: i32 = 1;
-
-pub fn text(words: &[u8]) {
-    io::write_all(OUT, words);
+// The answer behind a label: figures, or `refused` and the refusal's number. Where a write fails, the rest is tried all the same.
+pub fn text(rt: &impl Print, words: &[u8]) {
+    let _ = rt.write_all(words);
 }
 
 // A space and a number.
-pub fn figure(n: u32) {
-    io::write_all(OUT, b" ");
-    io::print_decimal(OUT, n as u64);
+pub fn figure(rt: &impl Print, n: u32) {
+    let _ = print!(rt; " {n}");
 }
 
 // A space and a length or an offset.
-pub fn length(n: usize) {
-    io::write_all(OUT, b" ");
-    io::print_decimal(OUT, n as u64);
+pub fn length(rt: &impl Print, n: usize) {
+    let _ = print!(rt; " {n}");
 }
 
-pub fn end() {
-    io::write_all(OUT, b"\n");
+pub fn end(rt: &impl Print) {
+    text(rt, b"\n");
 }
 
-pub fn refused(number: u32) {
-    io::write_all(OUT, b" refused");
-    figure(number);
+pub fn refused(rt: &impl Print, number: u32) {
+    text(rt, b" refused");
+    figure(rt, number);
 }
 
 // A list of numbers.
-pub fn list(numbers: &[u32]) {
+pub fn list(rt: &impl Print, numbers: &[u32]) {
     let mut i = 0;
     while i < numbers.len() {
-        figure(numbers[i]);
+        figure(rt, numbers[i]);
         i += 1;
     }
 }
 
 // A refusal's number, or where that is 0 the figures.
-pub fn answer(refusal: u32, figures: &[u32]) {
+pub fn answer(rt: &impl Print, refusal: u32, figures: &[u32]) {
     if refusal != 0 {
-        refused(refusal);
+        refused(rt, refusal);
     } else {
-        list(figures);
+        list(rt, figures);
     }
 }

@@ -7,22 +7,20 @@ use editions::program::Program;
 use streams::Output;
 
 // Where the input cannot be read, nothing is printed: the edition of a part would be wrong.
-fn main() {
+fn main(rt: HostRuntime) {
     let mut input = [0u8; Program::INPUT];
-    let read = streams::read(&mut input);
+    let read = streams::read(&mut rt.stdin(), &rt, &mut input);
     if read.failed {
         return;
     }
     let n = read.bytes;
     let mut bytes = [0u8; Program::OUTPUT];
     let turned = program::to_new(&input[..n], &mut bytes);
+    let out = Output::new(rt.stdout(), rt);
     if turned.refusal != 0 {
-        Output::new()
-            .text(b"refused")
-            .field(turned.refusal)
-            .end_line();
+        out.text(b"refused").field(turned.refusal).end_line();
     } else {
         let length = turned.length;
-        Output::new().text(&bytes[..length]);
+        out.text(&bytes[..length]);
     }
 }

@@ -4,7 +4,7 @@ use borrow.Author.Rules.{rules}
 use Rattle.cases_calls.proofs.marking.behind64.Given as goal
 
 abbrev pub invariant-loop-i : goal.invariant-loop-i
-invariant-loop-i l = l.i ≤ length l.list
+invariant-loop-i g l = l.i ≤ length l.list
 
 abbrev pub decreases-loop-i : goal.decreases-loop-i
-decreases-loop-i l = length l.list - l.i
+decreases-loop-i g l = length l.list - l.i

@@ -5,7 +5,7 @@ use borrow.Author.Rules.{rules}
 use Rattle.cases_calls.proofs.traces.rules.Given as goal
 
 abbrev pub invariant-loop-i : goal.invariant-loop-i
-invariant-loop-i l = (l.i ≤ length l.trace) × (length l.pages ≡ length l.initial.pages) × (length l.numbers ≡ length l.initial.numbers)
+invariant-loop-i g l = (l.i ≤ length l.trace) × (length l.pages ≡ length l.initial.pages) × (length l.numbers ≡ length l.initial.numbers)
 
 abbrev pub decreases-loop-i : goal.decreases-loop-i
-decreases-loop-i l = length l.trace - l.i
+decreases-loop-i g l = length l.trace - l.i

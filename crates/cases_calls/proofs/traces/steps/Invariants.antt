@@ -5,7 +5,7 @@ use borrow.Author.Rules.{rules}
 use Rattle.cases_calls.proofs.traces.steps.Given as goal
 
 abbrev pub invariant-loop-i : goal.invariant-loop-i
-invariant-loop-i l = (l.i ≤ length l.trace) × (length l.cache ≡ length l.initial.cache) × (length l.evicted ≡ length l.initial.evicted)
+invariant-loop-i g l = (l.i ≤ length l.trace) × (length l.cache ≡ length l.initial.cache) × (length l.evicted ≡ length l.initial.evicted)
 
 abbrev pub decreases-loop-i : goal.decreases-loop-i
-decreases-loop-i l = length l.trace - l.i
+decreases-loop-i g l = length l.trace - l.i
