@@ -10,7 +10,8 @@ use Rattle.report.proofs.of_input.Goals as goal
 pub returns-then-told-ne0 : goal.returns-then-told-ne0
 returns-then-told-ne0 c =
     let fill = c.fill-told in
-    read_enough _ _ (input_refused _ fill.result fill.ensures.0 _ c.refused.ensures c.if-told-ne0.true)
+    let p = read_enough _ _ (input_refused _ fill.result fill.ensures.0 _ c.refused.ensures c.if-told-ne0.true) in
+    record { value = p.0; read_enough = p.1 }
 
 pub slice_bounds-pages-end : goal.slice_bounds-pages-end
 slice_bounds-pages-end c =
@@ -34,4 +35,5 @@ pub returns : goal.returns
 returns c =
     let fill = c.fill-told in
     let if1 = c.if-told-ne0 in
-    read_enough _ _ (input_figures _ fill.result fill.ensures.0 if1.false fill.new.pages fill.ensures.1 _ c.of.ensures)
+    let p = read_enough _ _ (input_figures _ fill.result fill.ensures.0 if1.false fill.new.pages fill.ensures.1 _ c.of.ensures) in
+    record { value = p.0; read_enough = p.1 }

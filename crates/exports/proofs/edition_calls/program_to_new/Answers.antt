@@ -8,4 +8,4 @@ pub returns : goal.returns
 returns c =
     let call = c.to_new in
     let fields = c.converted_fields-all in
-    (stored converted_fields c.args.out.now c.fields.ensures fields.ensures call.ensures.0.0, call.ensures.0.1)
+    (stored converted_fields c.args.out.now c.fields.ensures fields.ensures call.ensures.value.0, call.ensures.value.1)
