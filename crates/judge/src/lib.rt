@@ -21,8 +21,7 @@ mod many;
 mod run;
 
 // The cost of the schedule, or the refusal's number made negative.
-#[unsafe(no_mangle)]
-pub extern "C" fn judge(trace: &[u8], schedule: &[u8]) -> i64
+pub fn judge(trace: &[u8], schedule: &[u8]) -> i64
     ensures { result ≡ answer_number (judged trace.now schedule.now) }
 {
     files::number(files::answer(trace, schedule))
