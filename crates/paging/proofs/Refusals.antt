@@ -1,12 +1,12 @@
 -- Laws of the lists of refusals, and of refusals 1, 2 and 3, which the calls judge first.
-use Prim.Native.Nat.{ℕ, ◌≤◌}
+use Prim.Native.Nat.{ℕ, ◌≤◌, ◌<◌}
 use native.Mathlib.Omega.{arith}
 use mathlib.Core.Bool.{Bool, false}
 use mathlib.Core.List.{List}
 use mathlib.Core.Path.{◌≡◌, refl, sym, ◌∙◌}
 use lib.Dec.{eqb, ltb}
 use lib.ListN.{length}
-use borrow.Author.Tests.{ne_eqb, le-ltb, eqb-true, ltb-false}
+use borrow.Author.Tests.{eq-eqb, ne_eqb, lt-ltb, le-ltb, eqb-true, ltb-false}
 use Rattle.lists.specs.Choice.{pick, ◌or◌}
 use Rattle.lists.proofs.Choice.{tests, cases, or_none_l, or_none_r}
 use Rattle.paging.specs.Refusals.{longest_trace, refuse, sizes_refusal, trace_refusal, SizesRight}
@@ -56,6 +56,29 @@ sizes_chain k a =
     chain_refuse (eqb k 0 or ltb 256 k) 1 (λ rest. refuse (eqb a 0 or ltb k a) 2 rest) (λ z. omega arith)
     (chain_refuse (eqb a 0 or ltb k a) 2 (λ rest. rest) (λ z. omega arith) chain_end)
 
+-- the four ways to be refused, and the one not to be
+pub sizes_k_zero : (k a : ℕ) → k ≡ 0 → 1 ≡ sizes_refusal k a 0
+unfolding sizes_refusal ◌or◌
+sizes_k_zero k a e = rw (eq-eqb k 0 e)
+
+pub sizes_k_high : (k a : ℕ) → 256 < k → 1 ≡ sizes_refusal k a 0
+unfolding sizes_refusal ◌or◌
+sizes_k_high k a l = rw (ne_eqb k 0 (λ e. omega arith), lt-ltb 256 k l)
+
+pub sizes_a_zero : (k a : ℕ) → (k ≡ 0 → ⊥) → k ≤ 256 → a ≡ 0 → 2 ≡ sizes_refusal k a 0
+unfolding sizes_refusal ◌or◌
+sizes_a_zero k a n m e = rw (ne_eqb k 0 n, le-ltb 256 k m, eq-eqb a 0 e)
+
+pub sizes_a_high : (k a : ℕ) → (k ≡ 0 → ⊥) → k ≤ 256 → k < a → 2 ≡ sizes_refusal k a 0
+unfolding sizes_refusal ◌or◌
+sizes_a_high k a n m l = rw (ne_eqb k 0 n, le-ltb 256 k m) (rw (ne_eqb a 0 (λ e. omega arith), lt-ltb k a l))
+
+pub sizes_none : (k a : ℕ) → (k ≡ 0 → ⊥) → k ≤ 256 → (a ≡ 0 → ⊥) → a ≤ k → 0 ≡ sizes_refusal k a 0
+unfolding sizes_refusal ◌or◌
+sizes_none k a n m z h = rw (ne_eqb k 0 n, le-ltb 256 k m) (rw (ne_eqb a 0 z, le-ltb k a h))
+
+pub ruleset sizes_rules = (sizes_k_zero, sizes_k_high, sizes_a_zero, sizes_a_high, sizes_none)
+
 pub sizes_pass : (k a rest : ℕ) → sizes_refusal k a 0 ≡ 0 → sizes_refusal k a rest ≡ rest
 sizes_pass k a rest e = chain_pass (sizes_refusal k a) (sizes_chain k a) rest e
 
@@ -88,6 +111,21 @@ sizes_rest k a rest e =
     (sizes_right k a z, sym (sizes_pass k a rest z) ∙ e)
 
 -- 1, 2 and 3
+
+-- the three ways to be judged
+pub trace_sizes : (k a : ℕ) (trace : List ℕ) (number : ℕ) → number ≡ sizes_refusal k a 0 → (number ≡ 0 → ⊥) → number ≡ trace_refusal k a trace 0
+unfolding trace_refusal
+trace_sizes k a trace number e n = sym (sizes_fall k a _ number e n)
+
+pub trace_long : (k a : ℕ) (trace : List ℕ) → 0 ≡ sizes_refusal k a 0 → longest_trace < length trace → 3 ≡ trace_refusal k a trace 0
+unfolding trace_refusal
+trace_long k a trace e l = sym (sizes_pass k a _ (sym e) ∙ rw (lt-ltb longest_trace (length trace) l))
+
+pub trace_none : (k a : ℕ) (trace : List ℕ) → 0 ≡ sizes_refusal k a 0 → length trace ≤ longest_trace → 0 ≡ trace_refusal k a trace 0
+unfolding trace_refusal
+trace_none k a trace e h = sym (sizes_pass k a _ (sym e) ∙ rw (le-ltb longest_trace (length trace) h))
+
+pub ruleset trace_rules = (trace_sizes, trace_long, trace_none)
 
 module _ (k a : ℕ) (trace : List ℕ) where
   pub trace_chain : Chain (trace_refusal k a trace)

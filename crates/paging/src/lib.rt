@@ -31,6 +31,7 @@ impl Sizes {
     pub const TRACE_MAX: usize = 65536;
 
     // 1 where k is 0 or above 256, 2 where a is 0 or above k, else 0.
+    #[tactic(auto, using(crate::proofs::Refusals::sizes_rules))]
     pub fn refusal(self) -> u32
         ensures { result ≡ sizes_refusal self.k self.a 0 }
     {
@@ -52,6 +53,7 @@ impl Sizes {
     }
 
     // The same for a call over a lent trace: then 3 where it has too many requests.
+    #[tactic(auto, using(crate::proofs::Refusals::trace_rules))]
     pub fn trace_refusal(self, trace: &[u32]) -> u32
         ensures { result ≡ trace_refusal self.k self.a trace.now 0 }
     {
