@@ -33,7 +33,7 @@ singles() { # FILE K A
 path_without_rt() {
     local command
     mkdir -p "$made/bare"
-    for command in awk bash cat cmp dirname env find flock head mkdir mktemp readlink rm sed sha256sum sleep sort xargs; do
+    for command in awk bash cat cmp dirname env find flock grep head mkdir mktemp readlink rm sed sha256sum sleep sort xargs; do
         ln -sf "$(command -v "$command")" "$made/bare/"
     done
     echo "$made/bare"
