@@ -1,5 +1,8 @@
 use native.Mathlib.Omega.{arith}
+use mathlib.Core.Path.{ap, ◌∙◌}
 use borrow.Author.Rules.{rules}
+use Rattle.cursor.specs.Cursor.{requests_left}
+use Rattle.judging.specs.Judging.{closing}
 use Rattle.judge.proofs.ClosingLaws.{open_over}
 use Rattle.judge.proofs.closing.close_open.Goals as goal
 
@@ -18,4 +21,4 @@ pub returns : goal.returns
 returns c =
     let settle = c.settle in
     let close = c.close in
-    (rw settle.ensures at close.ensures.0, close.ensures.1)
+    (close.ensures.0 ∙ ap (closing c.args.k c.args.count (requests_left c.args.trace.now c.args.first).held) settle.ensures, close.ensures.1)

@@ -25,7 +25,7 @@ returns-then-u-requests c =
     let trace = c.args.trace.now in
     let u = c.args.u in
     let pre = c.requires in
-    (late k requests trace schedule held place u pre.0 c.if-u-requests.true, tt)
+    (late k requests trace schedule held place u pre.0 (omega arith), tt)
 
 pub returns-then-u-t-2 : goal.returns-then-u-t-2
 returns-then-u-t-2 c =
@@ -44,18 +44,6 @@ close_open-requires c =
     let pre = c.requires in
     let f = pre.0 in
     let i = f.inside in let r = f.room in let z = f.started in ((z, omega arith, omega arith), (r, omega arith, i))
-
--- LOST overflow-mul-t20
--- mul-t20 : tie.Need-overflow-mul-t20
--- mul-t20 c =
---     let pre = c.before.before.before.before.before.before.before.before.before.before.before.before.before.requires in
---     let f = pre.0 in let i = f.inside in omega arith
-
--- LOST overflow-add-t21
--- add-t21 : tie.Need-overflow-add-t21
--- add-t21 c =
---     let pre = c.before.before.before.before.before.before.before.before.before.before.before.before.before.requires in
---     let f = pre.0 in let i = f.inside in omega arith
 
 pub returns-in-Overfull : goal.returns-in-Overfull
 returns-in-Overfull c =

@@ -47,7 +47,31 @@ fetched-requires c =
     let trace = c.args.trace.now in
     let arrive = c.arrive in
     let d = lands k requests _ trace schedule arrive.result c.in-On.here c.in-On.is arrive.ensures.1 in
-    d.sound.inside
+    let i = d.sound.inside in omega arith
+
+pub returns-else-fetched : goal.returns-else-fetched
+returns-else-fetched c =
+    let held = c.args.held.now in
+    let k = c.args.k in
+    let page = c.args.page in
+    let place = c.args.place in
+    let requests = c.args.requests in
+    let schedule = c.args.schedule.now in
+    let t = c.args.t in
+    let trace = c.args.trace.now in
+    let pre = c.requires in
+    let arrive = c.arrive in
+    let has = c.has in
+    let if1 = c.if-has in
+    let d = lands k requests _ trace schedule arrive.result c.in-On.here c.in-On.is arrive.ensures.1 in
+    let e = d.ends in
+    let m = rw (← e) at pre.3 in (
+      pf_done k requests trace schedule arrive.new.held c.in-On.here d.sound t page (sym if1.false ∙ has.ensures)
+          (sym c.if-fetched.false ∙ c.fetched.ensures) m
+          ∙ acts k trace schedule arrive.new.held (standing trace schedule held place) (pf t page) arrive.result arrive.ensures.0 c.in-On.here
+          c.in-On.is,
+      rw (← e) (pf_sound k requests trace schedule arrive.new.held c.in-On.here d.sound t (omega arith)),
+    )
 
 pub returns-then-fetched : goal.returns-then-fetched
 returns-then-fetched c =
@@ -90,28 +114,4 @@ returns-in-Stop c =
       halts k trace schedule arrive.new.held (standing trace schedule held place) (pf t page) arrive.result arrive.ensures.0 c.in-Stop.number
           c.in-Stop.is,
       tt,
-    )
-
-pub returns-else-fetched : goal.returns-else-fetched
-returns-else-fetched c =
-    let held = c.args.held.now in
-    let k = c.args.k in
-    let page = c.args.page in
-    let place = c.args.place in
-    let requests = c.args.requests in
-    let schedule = c.args.schedule.now in
-    let t = c.args.t in
-    let trace = c.args.trace.now in
-    let pre = c.requires in
-    let arrive = c.arrive in
-    let has = c.has in
-    let if1 = c.if-has in
-    let d = lands k requests _ trace schedule arrive.result c.in-On.here c.in-On.is arrive.ensures.1 in
-    let e = d.ends in
-    let m = rw (← e) at pre.3 in (
-      pf_done k requests trace schedule arrive.new.held c.in-On.here d.sound t page (sym if1.false ∙ has.ensures)
-          (sym c.if-fetched.false ∙ c.fetched.ensures) m
-          ∙ acts k trace schedule arrive.new.held (standing trace schedule held place) (pf t page) arrive.result arrive.ensures.0 c.in-On.here
-          c.in-On.is,
-      rw (← e) (pf_sound k requests trace schedule arrive.new.held c.in-On.here d.sound t (omega arith)),
     )

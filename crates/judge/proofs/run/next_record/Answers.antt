@@ -14,7 +14,6 @@ overflow_add-at c =
 
 pub bundle-requires : goal.bundle-requires
 bundle-requires c =
-    let a = c.args.a in
     let held = c.args.held.now in
     let k = c.args.k in
     let place = c.args.place in
@@ -23,13 +22,12 @@ bundle-requires c =
     let trace = c.args.trace.now in
     let pre = c.requires in
     let schedule-within = c.schedule_within in
-    let f = ev_fact k a requests trace schedule held place pre.0 schedule-within.result schedule-within.ensures c.in-Bundle.t c.in-Bundle.n
+    let f = ev_fact k _ requests trace schedule held place pre.0 schedule-within.result schedule-within.ensures c.in-Bundle.t c.in-Bundle.n
     c.in-Bundle.from c.in-Bundle.next c.in-Bundle.is in
     (pre.0, omega arith, omega arith, omega arith, omega arith)
 
 pub fetch-step-requires : goal.fetch-step-requires
 fetch-step-requires c =
-    let a = c.args.a in
     let held = c.args.held.now in
     let k = c.args.k in
     let place = c.args.place in
@@ -38,7 +36,7 @@ fetch-step-requires c =
     let trace = c.args.trace.now in
     let pre = c.requires in
     let schedule-within = c.schedule_within in
-    let f = pf_fact k a requests trace schedule held place pre.0 schedule-within.result schedule-within.ensures c.in-Fetch.t c.in-Fetch.page
+    let f = pf_fact k _ requests trace schedule held place pre.0 schedule-within.result schedule-within.ensures c.in-Fetch.t c.in-Fetch.page
     c.in-Fetch.next c.in-Fetch.is in
     let i = f.inside in (pre.0, omega arith, i, f.page_is)
 
