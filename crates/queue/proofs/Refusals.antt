@@ -59,38 +59,41 @@ module _ (run : Run) (count : ℕ) (cache evicted : List ℕ) (ill : Bool) where
   unfolding run_refusal
   number_sizes n e z = sym (sizes_fall run.k run.a _ n e z)
 
-  module _ (n : ℕ) (sz : n ≡ sizes_refusal run.k run.a 0) (z : n ≡ 0) where
+  module _ (z : 0 ≡ sizes_refusal run.k run.a 0) where
     pub number_cache : length cache < run.k → 8 ≡ run_refusal run count cache evicted ill 0
     unfolding run_refusal ◌or◌
-    number_cache h = sym (sizes_pass run.k run.a _ (sym sz ∙ z) ∙ rw (lt-ltb _ _ h) refl)
+    number_cache h = sym (sizes_pass run.k run.a _ (sym z) ∙ rw (lt-ltb _ _ h) refl)
 
     module _ (hc : run.k ≤ length cache) where
       pub number_evicted : length evicted < run.a → 8 ≡ run_refusal run count cache evicted ill 0
       unfolding run_refusal ◌or◌
-      number_evicted h = sym (sizes_pass run.k run.a _ (sym sz ∙ z) ∙ rw (le-ltb _ _ hc, lt-ltb _ _ h) refl)
+      number_evicted h = sym (sizes_pass run.k run.a _ (sym z) ∙ rw (le-ltb _ _ hc, lt-ltb _ _ h) refl)
 
       module _ (he : run.a ≤ length evicted) where
-        rest_is : (w : Bool) → w ≡ well_formed run count cache
-            → run_refusal run count cache evicted ill 0 ≡ refuse (not w or ill) 9 (refuse (eqb run.requests 4294967295) 12 0)
+        rest_is : run_refusal run count cache evicted ill 0
+            ≡ refuse (not (well_formed run count cache) or ill) 9 (refuse (eqb run.requests 4294967295) 12 0)
         unfolding run_refusal ◌or◌
-        rest_is w e = sizes_pass run.k run.a _ (sym sz ∙ z) ∙ rw (le-ltb _ _ hc, le-ltb _ _ he, e) refl
+        rest_is = sizes_pass run.k run.a _ (sym z) ∙ rw (le-ltb _ _ hc, le-ltb _ _ he) refl
 
-        pub number_formed : (w : Bool) → w ≡ well_formed run count cache → w ≡ false → 9 ≡ run_refusal run count cache evicted ill 0
+        pub number_formed : false ≡ well_formed run count cache → 9 ≡ run_refusal run count cache evicted ill 0
         unfolding ◌or◌
-        number_formed w e f = sym (rest_is w e ∙ rw f refl)
+        number_formed f = sym (rest_is ∙ rw (← f) refl)
 
-        module _ (w : Bool) (e : w ≡ well_formed run count cache) (f : w ≡ true) where
+        module _ (f : true ≡ well_formed run count cache) where
           pub number_ill : ill ≡ true → 9 ≡ run_refusal run count cache evicted ill 0
           unfolding ◌or◌
-          number_ill i = sym (rest_is w e ∙ rw (f, i) refl)
+          number_ill i = sym (rest_is ∙ rw (← f, i) refl)
 
           pub number_last : ill ≡ false → run.requests ≡ 4294967295 → 12 ≡ run_refusal run count cache evicted ill 0
           unfolding ◌or◌
-          number_last i h = sym (rest_is w e ∙ rw (f, i, eq-eqb _ _ h) refl)
+          number_last i h = sym (rest_is ∙ rw (← f, i, eq-eqb _ _ h) refl)
 
           pub number_none : ill ≡ false → (run.requests ≡ 4294967295 → ⊥) → 0 ≡ run_refusal run count cache evicted ill 0
           unfolding ◌or◌
-          number_none i h = sym (rest_is w e ∙ rw (f, i, ne_eqb _ _ h) refl)
+          number_none i h = sym (rest_is ∙ rw (← f, i, ne_eqb _ _ h) refl)
+
+pub ruleset number_rules =
+    (number_sizes, number_cache, number_evicted, number_formed, number_ill, number_last, number_none)
 
 pub ready_of : (run : Run) (count : ℕ) (cache evicted : List ℕ) → request_refusal run count cache evicted ≡ 0 → RequestReady run count cache evicted
 ready_of run count cache evicted e = (run_ready run count cache evicted false 0 e).0

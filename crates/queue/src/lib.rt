@@ -1,6 +1,6 @@
 // A buffer kept as a list that pages leave from the front: the call that a tracker makes, one request at a time, on a run record by value and two
 // lent lists; and over a whole trace. How the list is kept makes the policy: by request it is least recent use (document 01, "LRU"; the crate
-// lru), by load it is oldest load first (document 02, request 01; the crate fifo).
+// least_recent), by load it is oldest load first (document 02, request 01; the crate fifo).
 #![tactic(auto)]
 
 ghost use Rattle.std.specs.Prelude.{◌≤◌, ◌≡◌, length, take};
@@ -130,6 +130,7 @@ fn refused(number: u32) -> Reply
 }
 
 // The number of the first refusal that holds, in document 01's order, or 0. `ill` is a further reason for 9.
+#[tactic(auto, using(crate::proofs::Refusals::number_rules))]
 fn refusal(run: Run, count: u32, cache: &[u32], evicted: &[u32], ill: bool) -> u32
     ensures { result ≡ run_refusal run count cache.now evicted.now ill 0 }
 {
