@@ -1,13 +1,13 @@
 // The calls on pages of documents 01 and 02, made with the numbers and lists of a row; each prints its answer.
 //   traces      whole traces
 //   requests    single requests and questions
-//   marking     marking with priorities RDM
+//   mark_cases  marking with priorities RDM
 #![tactic(auto)]
 
 use cases_rows::row::Numbers;
 use cases_rows::show;
 
-mod marking;
+mod mark_cases;
 mod requests;
 mod traces;
 
@@ -92,8 +92,8 @@ fn asked(
 // Marking, which leaves the lists of the row as they are, and these lists.
 fn marked(rt: &impl Print, call: u16, n: Numbers, first: &[u32], second: &[u32]) -> bool {
     match call {
-        MARK => marking::request(rt, n, first, second),
-        RDM => marking::over_trace(rt, n, first, second),
+        MARK => mark_cases::request(rt, n, first, second),
+        RDM => mark_cases::over_trace(rt, n, first, second),
         FIRST => show::list(rt, first),
         SECOND => show::list(rt, second),
         _ => return false,

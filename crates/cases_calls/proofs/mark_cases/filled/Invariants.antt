@@ -1,9 +1,7 @@
 use Prim.Native.Nat.{◌≤◌, ◌-◌}
-use native.Mathlib.Omega.{arith}
 use mathlib.Core.Path.{◌≡◌}
-use lib.ListN.{length, length-set}
-use borrow.Author.Rules.{rules}
-use Rattle.cases_calls.proofs.marking.widened.Given as goal
+use lib.ListN.{length}
+use Rattle.cases_calls.proofs.mark_cases.filled.Given as goal
 
 abbrev pub invariant-loop-i : goal.invariant-loop-i
 invariant-loop-i l = (l.i ≤ length l.from) × (l.i ≤ length l.to) × (length l.to ≡ length l.initial.to)

@@ -1,7 +1,5 @@
 use Prim.Native.Nat.{◌≤◌, ◌-◌, ◌*◌}
-use native.Mathlib.Omega.{arith}
-use borrow.Author.Rules.{rules}
-use Rattle.cases_calls.proofs.marking.start.Given as goal
+use Rattle.cases_calls.proofs.mark_cases.start.Given as goal
 
 abbrev pub invariant-loop-i : goal.invariant-loop-i
 invariant-loop-i l = (l.at ≤ 8 * l.i) × (l.i ≤ l.which)
