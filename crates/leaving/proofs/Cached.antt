@@ -1,16 +1,13 @@
 -- Laws of the three lists as one list of cached pages: the lists back from it, entries, parts; and of cached pages that stand in front of the lists.
 use Prim.Native.Nat.{ℕ, zero, suc, ◌+◌, ◌-◌, ◌≤◌, ◌<◌}
-use native.Mathlib.Numerals.{add-one}
 use native.Mathlib.Omega.{arith}
-use mathlib.Core.Bool.{Bool, true, false}
 use mathlib.Core.List.{List, [], ◌∷◌, ◌++◌, map, append_assoc}
 use mathlib.Core.Path.{◌≡◌, refl, sym, ap, ◌∙◌}
-use lib.ListN.{length, take, drop, get_or, set, replicate, length-append, length-drop, length-set, length-map, get_or-map}
-use lib.Seq.{length-take-le, take-suc, take_at, drop_at, take-append_seam, take-append-le, drop-append-le, take-set-lt, drop-set-lt, drop-drop, get_or-take}
-use Rattle.lists.specs.Choice.{pick}
-use Rattle.lists.specs.Places.{moved_to_end, laid}
+use lib.ListN.{length, take, drop, get_or, set, length-set, length-map, get_or-map}
+use lib.Seq.{length-take-le, drop_at, take-append_seam, take-set-lt, drop-set-lt, drop-drop, get_or-take}
+use Rattle.lists.specs.Places.{moved_to_end}
 use Rattle.lists.proofs.Leaves.{length_moved}
-use Rattle.marking.specs.Marking.{Cached, cached_at, pages_in, marks_in, priorities_in, cleared}
+use Rattle.marking.specs.Marking.{Cached, cached_at, pages_in, marks_in, priorities_in}
 use Rattle.marking.specs.Lists.{cached_of, cached_in}
 use Rattle.leaving.specs.Buffer.{gone_at, Roomy, Fronted, LeftWith, no_cached}
 

@@ -9,7 +9,7 @@ use lib.ListN.{length, take, drop, get_or, replicate, length-append, length-drop
 use lib.Seq.{length-take-le, take-suc, take_at, take-append-le, drop-append-le, drop-drop}
 use Rattle.lists.specs.Choice.{pick}
 use Rattle.lists.specs.Places.{laid}
-use Rattle.marking.specs.Marking.{Cached, cached_at, pages_in, cleared}
+use Rattle.marking.specs.Marking.{Cached, cached_at, cleared}
 use Rattle.marking.specs.Lists.{cached_of}
 use Rattle.leaving.specs.Buffer.{Fronted}
 use Rattle.leaving.proofs.Cached.{fronted_whole}

@@ -8,7 +8,7 @@ use lib.Dec.{eqb, ltb}
 use lib.ListN.{length, take, drop, replicate, length-map, take-append-drop}
 use lib.Seq.{length-take-le, take_at}
 use borrow.Author.Tests.{ltb-true, ltb-false, le-leb}
-use Rattle.lists.specs.Choice.{pick, ◌and◌}
+use Rattle.lists.specs.Choice.{pick}
 use Rattle.lists.specs.Pages.{mem, distinct, count, filter}
 use Rattle.lists.specs.Places.{laid}
 use Rattle.lists.specs.Sorting.{insert_by, sort_by}

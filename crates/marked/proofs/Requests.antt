@@ -8,7 +8,7 @@ use lib.Dec.{eqb, ltb}
 use lib.ListN.{length, take, drop, set, replicate, length-append, length-drop, length-set, length-map}
 use lib.Seq.{length-take-le, take_at, drop_at}
 use borrow.Author.Tests.{lt-ltb, le-ltb, eqb-true, not-true}
-use Rattle.lists.specs.Choice.{pick, ◌and◌}
+use Rattle.lists.specs.Choice.{pick}
 use Rattle.lists.specs.Pages.{mem, distinct}
 use Rattle.lists.specs.Places.{place}
 use Rattle.lists.specs.Sorting.{insert_by}

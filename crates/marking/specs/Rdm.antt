@@ -1,5 +1,5 @@
 -- The priorities RDM (document 02, request 09; source document 001, section 4: 0.8 t + 0.1 (t - t0), ten times which is 9 t - t0), and marking with them.
-use Rattle.std.specs.Prelude.{ℕ, ◌+◌, ◌*◌, ◌-◌, Bool, not, List, [], ◌∷◌, ◌++◌, map, eqb, ltb, get_or}
+use Rattle.std.specs.Prelude.{ℕ, ◌+◌, ◌*◌, ◌-◌, Bool, not, List, [], ◌∷◌, map, eqb, ltb, get_or}
 use Rattle.lists.specs.Choice.{pick, ◌and◌}
 use Rattle.lists.specs.Pages.{bit}
 use Rattle.lists.specs.Places.{place}

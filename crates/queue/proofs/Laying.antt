@@ -4,7 +4,7 @@ use native.Mathlib.Numerals.{add-one}
 use native.Mathlib.Omega.{arith}
 use mathlib.Core.List.{List, ◌++◌, append_assoc}
 use mathlib.Core.Path.{◌≡◌, refl, sym, ap, ◌∙◌}
-use lib.ListN.{length, take, drop, set, replicate, length-append, length-drop, length-set, length-replicate}
+use lib.ListN.{length, take, drop, set, replicate, length-append, length-drop, length-set}
 use lib.Seq.{take_all, length-take-le, take_at, drop-drop, drop-append-add, drop-set-lt, take-suc-set}
 use Rattle.lists.specs.Places.{moved_to_end, first_dropped, pasted, laid}
 use Rattle.lists.proofs.Leaves.{length_moved, length_dropped}

@@ -1,7 +1,6 @@
 -- `cursor::next_record` meets its contract: the record at the offset is read, a run or a single request.
 use native.Mathlib.Omega.{arith}
 use mathlib.Core.Path.{sym, ◌∙◌}
-use borrow.Author.Rules.{rules}
 use Rattle.cursor.proofs.Laws.{record_inside, run_inside, run_begun, single_begun}
 use Rattle.cursor.proofs.next_record.Goals as goal
 

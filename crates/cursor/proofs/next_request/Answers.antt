@@ -1,5 +1,4 @@
 -- `cursor::next_request` meets its contract: one of a run is taken, or the first of the record at the offset.
-use borrow.Author.Rules.{rules}
 use Rattle.cursor.proofs.Laws.{in_a_run, some_there, first_of_record}
 use Rattle.cursor.proofs.next_request.Goals as goal
 

@@ -1,5 +1,4 @@
 -- `fifo::preview` meets its contract: what a preview promises of either way of keeping the list, it promises of this one.
-use borrow.Author.Rules.{rules}
 use Rattle.paging.specs.declared.Keeping.TheVariants.{ByLoad}
 use Rattle.fifo.proofs.preview.Goals as goal
 

@@ -1,6 +1,5 @@
 -- `layers::answered` meets its contract: each case tells the number of its rule, and adds one to that rule's count.
 use mathlib.Core.Path.{refl}
-use borrow.Author.Rules.{rules}
 use Rattle.layers.proofs.answered.Goals as goal
 
 pub returns-in-Append : goal.returns-in-Append

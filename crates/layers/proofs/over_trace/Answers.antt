@@ -1,5 +1,4 @@
 use mathlib.Core.Path.{sym, ◌∙◌}
-use borrow.Author.Rules.{rules}
 use Rattle.layers.proofs.OverLaws.{over_early, serve_ready, over_full, s_small, over_done}
 use Rattle.layers.proofs.over_trace.Goals as goal
 

@@ -1,6 +1,5 @@
 use native.Mathlib.Omega.{arith}
 use mathlib.Core.Path.{sym, ◌∙◌}
-use borrow.Author.Rules.{rules}
 use Rattle.paging.specs.Rows.{rows_of}
 use Rattle.paging.specs.Table.{number_in}
 use Rattle.layers.proofs.Asking.{possible_refused, possible_twice, possible_differs, possible_walked, tally_most, s_most}

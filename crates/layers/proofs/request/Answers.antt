@@ -1,6 +1,5 @@
 use native.Mathlib.Omega.{arith}
 use mathlib.Core.Path.{sym, ◌∙◌, refl}
-use borrow.Author.Rules.{rules}
 use Rattle.layers.proofs.Refusing.{state_ready, sound, counters_fit, request_refused, request_state, request_last, request_full, rows_kept, request_served, pages_same, numbers_same}
 use Rattle.layers.proofs.request.Goals as goal
 

@@ -1,9 +1,5 @@
-use Prim.Native.Nat.{◌+◌, ◌≤◌, ◌-◌}
 use native.Mathlib.Omega.{arith}
-use mathlib.Core.Path.{◌≡◌, sym, ◌∙◌}
-use lib.ListN.{length, drop}
-use borrow.Author.Rules.{rules}
-use Rattle.lists.specs.Places.{place}
+use mathlib.Core.Path.{sym, ◌∙◌}
 use Rattle.lists.proofs.Leaves.{place_here, place_next, place_end}
 use Rattle.lists.proofs.find.Goals as goal
 

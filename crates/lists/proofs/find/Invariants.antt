@@ -1,11 +1,8 @@
 -- `lists::find` meets its contract: the pages before place i are not the page.
 use Prim.Native.Nat.{◌+◌, ◌≤◌, ◌-◌}
-use native.Mathlib.Omega.{arith}
-use mathlib.Core.Path.{◌≡◌, sym, ◌∙◌}
+use mathlib.Core.Path.{◌≡◌}
 use lib.ListN.{length, drop}
-use borrow.Author.Rules.{rules}
 use Rattle.lists.specs.Places.{place}
-use Rattle.lists.proofs.Leaves.{place_here, place_next, place_end}
 use Rattle.lists.proofs.find.Given as goal
 
 abbrev pub invariant-loop-i : goal.invariant-loop-i

@@ -1,13 +1,8 @@
 -- `lists::parts_without` meets its contract: the places passed do not have the page.
-use Prim.Native.Nat.{ℕ, ◌+◌, ◌-◌, ◌*◌, ◌≤◌}
-use native.Mathlib.Omega.{arith}
-use mathlib.Core.Bool.{false}
-use mathlib.Core.Path.{◌≡◌, sym, ap, ◌∙◌}
-use lib.ListN.{length, take, drop}
-use borrow.Author.Rules.{rules}
-use Rattle.lists.specs.Pages.{mem}
+use Prim.Native.Nat.{◌+◌, ◌*◌, ◌≤◌}
+use mathlib.Core.Path.{◌≡◌}
+use lib.ListN.{length, drop}
 use Rattle.lists.specs.Places.{place}
-use Rattle.lists.proofs.Leaves.{part_passed}
 use Rattle.lists.proofs.parts_without.Given as goal
 
 abbrev pub invariant-loop-parts : goal.invariant-loop-parts

@@ -1,5 +1,4 @@
 -- `marked::clear_marks` meets its contract.
-use borrow.Author.Rules.{rules}
 use Rattle.marked.proofs.clear_marks.Goals as goal
 
 pub returns-then-clear : goal.returns-then-clear

@@ -1,9 +1,6 @@
-use Prim.Native.Nat.{◌≤◌, ◌-◌}
 use native.Mathlib.Omega.{arith}
-use mathlib.Core.Path.{◌≡◌, refl, ap, ◌∙◌}
-use lib.ListN.{length, take}
+use mathlib.Core.Path.{refl, ap, ◌∙◌}
 use lib.Seq.{take_all}
-use borrow.Author.Rules.{rules}
 use Rattle.marking.specs.Lists.{all_marks}
 use Rattle.marked.proofs.Forms.{marks_turn}
 use Rattle.marked.proofs.marks_formed.Goals as goal

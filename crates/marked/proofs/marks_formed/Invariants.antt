@@ -1,12 +1,8 @@
 -- `marked::marks_formed` meets its contract: fine says whether the first i marks are 0 or 1.
 use Prim.Native.Nat.{◌≤◌, ◌-◌}
-use native.Mathlib.Omega.{arith}
-use mathlib.Core.Path.{◌≡◌, refl, ap, ◌∙◌}
+use mathlib.Core.Path.{◌≡◌}
 use lib.ListN.{length, take}
-use lib.Seq.{take_all}
-use borrow.Author.Rules.{rules}
 use Rattle.marking.specs.Lists.{all_marks}
-use Rattle.marked.proofs.Forms.{marks_turn}
 use Rattle.marked.proofs.marks_formed.Given as goal
 
 abbrev pub invariant-loop-i : goal.invariant-loop-i

@@ -1,9 +1,6 @@
-use Prim.Native.Nat.{◌≤◌, ◌-◌}
 use native.Mathlib.Omega.{arith}
-use mathlib.Core.Path.{◌≡◌, ap, ◌∙◌}
-use lib.ListN.{length, take}
+use mathlib.Core.Path.{ap, ◌∙◌}
 use lib.Seq.{take_all}
-use borrow.Author.Rules.{rules}
 use Rattle.marking.specs.Lists.{rising}
 use Rattle.marked.proofs.Forms.{rising_one, rises_turn}
 use Rattle.marked.proofs.rises.Goals as goal

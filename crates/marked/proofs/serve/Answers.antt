@@ -2,7 +2,6 @@
 use native.Mathlib.Omega.{arith}
 use mathlib.Core.Path.{◌∙◌}
 use lib.ListN.{length-take, length-set}
-use borrow.Author.Rules.{rules}
 use Rattle.marked.proofs.Requests.{marks_long, wipe_ready, hit_ready, hit_told, load_ready, load_told, bundle_ready, rest_ready, bundle_told}
 use Rattle.marked.proofs.serve.Goals as goal
 

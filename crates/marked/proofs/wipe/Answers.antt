@@ -1,5 +1,4 @@
 -- `marked::wipe` meets its contract, list by list.
-use borrow.Author.Rules.{rules}
 use Rattle.marked.proofs.Cached.{wiped_made}
 use Rattle.marked.proofs.wipe.Goals as goal
 

@@ -1,10 +1,7 @@
 use Prim.Native.Nat.{◌≤◌, ◌-◌}
-use native.Mathlib.Omega.{arith}
-use mathlib.Core.Path.{◌≡◌, refl}
-use lib.ListN.{length, length-set}
-use borrow.Author.Rules.{rules}
+use mathlib.Core.Path.{◌≡◌}
+use lib.ListN.{length}
 use Rattle.next_use.specs.Chains.{Chained}
-use Rattle.next_use.proofs.Chains.{chain_starts, chain_turn}
 use Rattle.next_use.proofs.chain.Given as goal
 
 abbrev pub invariant-loop-t : goal.invariant-loop-t

@@ -1,9 +1,7 @@
-use Prim.Native.Nat.{◌≤◌, ◌-◌}
+use Prim.Native.Nat.{◌≤◌}
 use native.Mathlib.Omega.{arith}
 use mathlib.Core.Path.{◌≡◌, refl, ◌∙◌}
 use lib.ListN.{length}
-use borrow.Author.Rules.{rules}
-use Rattle.next_use.specs.Chains.{LeftsFilled}
 use Rattle.next_use.proofs.Chains.{fill_starts, fill_ends, cleared}
 use Rattle.next_use.proofs.fill_by.Goals as goal
 

@@ -1,10 +1,7 @@
 use Prim.Native.Nat.{◌≤◌, ◌-◌}
-use native.Mathlib.Omega.{arith}
-use mathlib.Core.Path.{◌≡◌, refl, ◌∙◌}
+use mathlib.Core.Path.{◌≡◌}
 use lib.ListN.{length}
-use borrow.Author.Rules.{rules}
 use Rattle.next_use.specs.Chains.{LeftsFilled}
-use Rattle.next_use.proofs.Chains.{fill_starts, fill_ends, cleared}
 use Rattle.next_use.proofs.fill_by.Given as goal
 
 abbrev pub invariant-loop-c : goal.invariant-loop-c

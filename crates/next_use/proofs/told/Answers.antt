@@ -1,5 +1,4 @@
 use mathlib.Core.Path.{sym}
-use borrow.Author.Rules.{rules}
 use borrow.Author.Tests.{eq-eqb, ne_eqb}
 use Rattle.next_use.proofs.Chains.{told_none}
 use Rattle.next_use.proofs.told.Goals as goal

@@ -1,9 +1,9 @@
-use Prim.Native.Nat.{ℕ, suc, ◌≤◌, ◌-◌, ◌/◌}
+use Prim.Native.Nat.{◌-◌, ◌/◌}
 use native.Mathlib.Omega.{arith}
 use mathlib.Core.Path.{◌≡◌, refl, sym, ◌∙◌}
 use lib.ListN.{length, length-set}
 use borrow.Author.Rules.{rules}
-use Rattle.next_use.specs.Chains.{Walked, low, page_at}
+use Rattle.next_use.specs.Chains.{page_at}
 use Rattle.next_use.proofs.Chains.{walk_starts, walk_ends, last_le, last_low, next}
 use Rattle.next_use.proofs.walk.Goals as goal
 

@@ -1,10 +1,7 @@
-use Prim.Native.Nat.{ℕ, suc, ◌≤◌, ◌-◌, ◌/◌}
-use native.Mathlib.Omega.{arith}
-use mathlib.Core.Path.{◌≡◌, refl, sym, ◌∙◌}
-use lib.ListN.{length, length-set}
-use borrow.Author.Rules.{rules}
+use Prim.Native.Nat.{ℕ, suc, ◌≤◌}
+use mathlib.Core.Path.{◌≡◌}
+use lib.ListN.{length}
 use Rattle.next_use.specs.Chains.{Walked, low, page_at}
-use Rattle.next_use.proofs.Chains.{walk_starts, walk_ends, last_le, last_low, next}
 use Rattle.next_use.proofs.walk.Given as goal
 
 abbrev pub invariant-loop-s : goal.invariant-loop-s

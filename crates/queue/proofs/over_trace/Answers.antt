@@ -1,6 +1,5 @@
 -- `queue::over_trace` meets its contract: refused, zeros; else the counters of the run over the trace.
 use mathlib.Core.Path.{sym, ◌∙◌}
-use borrow.Author.Rules.{rules}
 use Rattle.queue.proofs.Refusals.{trace_ready, totals_refused, totals_served}
 use Rattle.queue.proofs.over_trace.Goals as goal
 

@@ -1,6 +1,5 @@
 -- `queue::refused` meets its contract: a refusal is zero in every other field.
 use mathlib.Core.Path.{ap}
-use borrow.Author.Rules.{rules}
 use Rattle.queue.specs.declared.Run.{Run}
 use Rattle.queue.proofs.refused.Goals as goal
 

@@ -1,5 +1,4 @@
 -- `queue::request` meets its contract: told, and where it is not refused, settled in the cache list.
-use borrow.Author.Rules.{rules}
 use Rattle.queue.proofs.Refusals.{request_ready, request_refused, request_settled}
 use Rattle.queue.proofs.Served.{can_settle}
 use Rattle.queue.proofs.request.Goals as goal

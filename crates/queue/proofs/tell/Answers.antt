@@ -2,7 +2,6 @@
 use native.Mathlib.Omega.{arith}
 use mathlib.Core.Path.{sym, ◌∙◌}
 use lib.ListN.{length-take}
-use borrow.Author.Rules.{rules}
 use Rattle.queue.proofs.Refusals.{ready_of, tell_refused, tell_accepted}
 use Rattle.queue.proofs.Served.{told, can_answer}
 use Rattle.queue.proofs.tell.Goals as goal

@@ -3,7 +3,6 @@ use native.Mathlib.Omega.{arith}
 use mathlib.Core.Path.{sym, ◌∙◌}
 use lib.ListN.{length-take}
 use Rattle.queue.proofs.Refusals.{ill_count, ill_evictions, ill_loads, well_by}
-use borrow.Author.Rules.{rules}
 use Rattle.queue.proofs.well_formed.Goals as goal
 
 pub returns-then-count-run : goal.returns-then-count-run

@@ -1,6 +1,4 @@
-use native.Mathlib.Omega.{arith}
 use Rattle.rank.proofs.Ranks.{revealed_at, revealed_past}
-use borrow.Author.Rules.{rules}
 use Rattle.rank.proofs.is_revealed.Goals as goal
 
 pub returns-then-at-used : goal.returns-then-at-used

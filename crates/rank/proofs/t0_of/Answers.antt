@@ -1,7 +1,6 @@
 use mathlib.Core.Path.{sym}
 use borrow.Author.Tests.{lt-ltb, le-ltb}
 use Rattle.lists.proofs.Choice.{pick_true, pick_false}
-use borrow.Author.Rules.{rules}
 use Rattle.rank.proofs.t0_of.Goals as goal
 
 pub returns-then-at-used : goal.returns-then-at-used

@@ -1,6 +1,5 @@
 use mathlib.Core.Path.{sym}
 use Rattle.lists.proofs.Choice.{pick_false}
-use borrow.Author.Rules.{rules}
 use Rattle.rank.proofs.time_after.Goals as goal
 
 pub returns : goal.returns

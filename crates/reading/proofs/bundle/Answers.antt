@@ -1,6 +1,5 @@
 -- `reading::bundle` meets its contract: the tests are those of `ev_read`, in its order.
 use mathlib.Core.Path.{◌∙◌, ◌≡◌}
-use borrow.Author.Rules.{rules}
 use Rattle.records.specs.Bytes.{ev_length}
 use Rattle.records.proofs.Lengths.{ev_length_is}
 use Rattle.reading.proofs.Reading.{ev_cut, ev_count, ev_pages_cut, ev_taken, count_none, count_above, count_far, count_fine}

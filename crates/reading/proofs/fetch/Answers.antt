@@ -1,5 +1,4 @@
 -- `reading::fetch` meets its contract: the record is cut, or its t and page are read.
-use borrow.Author.Rules.{rules}
 use Rattle.reading.proofs.Reading.{pf_cut, pf_taken}
 use Rattle.reading.proofs.fetch.Goals as goal
 

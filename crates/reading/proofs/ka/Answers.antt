@@ -1,6 +1,5 @@
 -- `reading::ka` meets its contract: by the mark's kind, each arm is one clause of `ka_read`.
 use mathlib.Core.Path.{◌≡◌, ◌∙◌, sym, ap}
-use borrow.Author.Rules.{rules}
 use Rattle.records.specs.Answers.{kind_mark}
 use Rattle.records.specs.Marks.{KA, RQ, RR, EV, PF, mark_at}
 use Rattle.reading.specs.Reading.{ka_read}

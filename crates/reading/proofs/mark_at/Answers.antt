@@ -1,6 +1,5 @@
 -- `reading::mark_at` meets its contract: fewer than two bytes are 5, else the mark decides.
 use mathlib.Core.Path.{◌∙◌, ap}
-use borrow.Author.Rules.{rules}
 use Rattle.records.specs.Marks.{mark_of}
 use Rattle.reading.proofs.Reading.{mark_cut, mark_read}
 use Rattle.reading.proofs.mark_at.Goals as goal

@@ -1,5 +1,4 @@
 -- `reading::pages` meets its contract: nothing is there, less than asked, or all of it.
-use borrow.Author.Rules.{rules}
 use Rattle.reading.proofs.Reading.{pages_none, pages_rest, pages_whole}
 use Rattle.reading.proofs.pages.Goals as goal
 

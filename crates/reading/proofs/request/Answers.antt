@@ -1,7 +1,6 @@
 -- `reading::request` meets its contract: by the mark's kind, each arm is one clause of `request_read`.
 use mathlib.Core.Path.{◌≡◌, ◌∙◌, sym, ap}
 use lib.ListN.{drop}
-use borrow.Author.Rules.{rules}
 use Rattle.records.specs.Answers.{kind_mark}
 use Rattle.records.specs.Marks.{KA, RQ, RR, EV, PF, mark_at}
 use Rattle.reading.specs.Reading.{request_read}

@@ -1,5 +1,4 @@
 -- `reading::run` meets its contract: the record is cut, has no request, or its page and times are read.
-use borrow.Author.Rules.{rules}
 use Rattle.reading.proofs.Reading.{rr_cut, rr_none, rr_taken}
 use Rattle.reading.proofs.run.Goals as goal
 

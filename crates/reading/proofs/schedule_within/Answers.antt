@@ -1,6 +1,5 @@
 -- `reading::schedule_within` meets its contract: the offset is past the end, at the start, at the end, or before an entry.
 use mathlib.Core.Path.{◌∙◌, sym, ap}
-use borrow.Author.Rules.{rules}
 use Rattle.reading.specs.Answers.{start_answer}
 use Rattle.reading.proofs.Reading.{schedule_past, schedule_first, schedule_last, schedule_later}
 use Rattle.reading.proofs.schedule_within.Goals as goal

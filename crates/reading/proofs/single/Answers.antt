@@ -1,5 +1,4 @@
 -- `reading::single` meets its contract: the record is cut, or its page is read.
-use borrow.Author.Rules.{rules}
 use Rattle.reading.proofs.Reading.{rq_cut, rq_taken}
 use Rattle.reading.proofs.single.Goals as goal
 

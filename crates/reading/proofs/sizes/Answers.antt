@@ -1,5 +1,4 @@
 -- `reading::sizes` meets its contract: the file is too short, the sizes are refused, or they are the KA's.
-use borrow.Author.Rules.{rules}
 use Rattle.reading.proofs.Reading.{ka_cut, ka_judged, ka_taken}
 use Rattle.reading.proofs.sizes.Goals as goal
 

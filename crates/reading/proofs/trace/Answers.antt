@@ -1,6 +1,5 @@
 -- `reading::trace` meets its contract: the offset is past the end, at the start, at the end, or before a request.
 use mathlib.Core.Path.{◌∙◌, sym, ap}
-use borrow.Author.Rules.{rules}
 use Rattle.reading.specs.Answers.{start_answer}
 use Rattle.reading.proofs.Reading.{trace_past, trace_first, trace_last, trace_later}
 use Rattle.reading.proofs.trace.Goals as goal

@@ -1,6 +1,5 @@
 use native.Mathlib.Omega.{arith}
 use mathlib.Core.Path.{refl}
-use borrow.Author.Rules.{rules}
 use Rattle.table.proofs.change_for.Goals as goal
 
 pub overflow_sub-result-in-Lift : goal.overflow_sub-result-in-Lift

@@ -1,11 +1,8 @@
 use Prim.Native.Nat.{◌≤◌, ◌-◌, max}
-use native.Mathlib.Omega.{arith}
 use mathlib.Core.Path.{◌≡◌}
 use lib.ListN.{length, drop}
-use borrow.Author.Rules.{rules}
 use Rattle.paging.specs.Rows.{rows_of}
 use Rattle.paging.specs.Table.{number_in}
-use Rattle.table.proofs.Serving.{number_next, number_end}
 use Rattle.table.proofs.largest_in.Given as goal
 
 abbrev pub invariant-loop-i : goal.invariant-loop-i

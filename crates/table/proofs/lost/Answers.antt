@@ -1,4 +1,3 @@
-use borrow.Author.Rules.{rules}
 use Rattle.table.proofs.Numbers.{lost_all, lost_some}
 use Rattle.table.proofs.lost.Goals as goal
 

@@ -1,5 +1,4 @@
 use borrow.Author.Tests.{eq-eqb, ne_eqb}
-use borrow.Author.Rules.{rules}
 use Rattle.table.proofs.Numbers.{lowered_fits, lowered_is}
 use Rattle.table.proofs.number_after.Goals as goal
 

@@ -1,10 +1,5 @@
-use Prim.Native.Nat.{◌≤◌, ◌-◌}
 use native.Mathlib.Omega.{arith}
-use mathlib.Core.Path.{◌≡◌}
-use lib.ListN.{length}
-use borrow.Author.Rules.{rules}
-use Rattle.paging.specs.Rows.{rows_of}
-use Rattle.table.proofs.Serving.{Renumbering, renumbering_start, turn_drops, turn_keeps, renumbering_end}
+use Rattle.table.proofs.Serving.{renumbering_start, turn_drops, turn_keeps, renumbering_end}
 use Rattle.table.proofs.renumber.Goals as goal
 
 pub loop-from-init : goal.loop-from-init

@@ -1,10 +1,8 @@
 use Prim.Native.Nat.{◌≤◌, ◌-◌}
-use native.Mathlib.Omega.{arith}
 use mathlib.Core.Path.{◌≡◌}
 use lib.ListN.{length}
-use borrow.Author.Rules.{rules}
 use Rattle.paging.specs.Rows.{rows_of}
-use Rattle.table.proofs.Serving.{Renumbering, renumbering_start, turn_drops, turn_keeps, renumbering_end}
+use Rattle.table.proofs.Serving.{Renumbering}
 use Rattle.table.proofs.renumber.Given as goal
 
 abbrev pub invariant-loop-from : goal.invariant-loop-from

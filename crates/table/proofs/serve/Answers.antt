@@ -2,7 +2,6 @@ use native.Mathlib.Omega.{arith}
 use mathlib.Core.Path.{◌∙◌, sym}
 use lib.ListN.{length-take, length-append, length-drop}
 use lib.Seq.{length-take-le}
-use borrow.Author.Rules.{rules}
 use Rattle.paging.specs.Rows.{rows_of}
 use Rattle.table.specs.Serving.{moved}
 use Rattle.table.proofs.Serving.{serve_end}

@@ -1,4 +1,3 @@
-use borrow.Author.Rules.{rules}
 use Rattle.table.proofs.top_after.Goals as goal
 
 pub returns-in-Append : goal.returns-in-Append

@@ -1,5 +1,4 @@
 use native.Mathlib.Omega.{arith}
-use borrow.Author.Rules.{rules}
 use Rattle.timed.proofs.LiftingLaws.{number_pos}
 use Rattle.timed.proofs.step.Goals as goal
 

@@ -1,6 +1,5 @@
 -- `wire::read16` meets its contract: the sum of the two bytes that it read is the number at the offset.
 use native.Mathlib.Omega.{arith}
-use borrow.Author.Rules.{rules}
 use Rattle.wire.proofs.Numbers.{num16_at}
 use Rattle.wire.proofs.read16.Goals as goal
 

@@ -1,6 +1,5 @@
 -- `wire::read32` meets its contract: the sum of the four bytes that it read is the number at the offset.
 use native.Mathlib.Omega.{arith}
-use borrow.Author.Rules.{rules}
 use Rattle.wire.proofs.Numbers.{num32_at}
 use Rattle.wire.proofs.read32.Goals as goal
 

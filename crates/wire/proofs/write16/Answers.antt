@@ -1,7 +1,6 @@
 -- `wire::write16` meets its contract: its two stores put the number's bytes at the offset.
 use native.Mathlib.Omega.{arith}
 use lib.ListN.{length-set}
-use borrow.Author.Rules.{rules}
 use Rattle.wire.proofs.Numbers.{stored16}
 use Rattle.wire.proofs.write16.Goals as goal
 

@@ -1,7 +1,6 @@
 -- `wire::write32` meets its contract: its four stores put the number's bytes at the offset.
 use native.Mathlib.Omega.{arith}
 use lib.ListN.{length-set}
-use borrow.Author.Rules.{rules}
 use Rattle.wire.proofs.Numbers.{stored32}
 use Rattle.wire.proofs.write32.Goals as goal
 

@@ -1,5 +1,4 @@
 -- `layers::formed::counts_formed` meets its contract: the sum of 64 bits is the sum of the numbers.
-use borrow.Author.Rules.{rules}
 use Rattle.layers.proofs.WellFormed.{counts_apart, counts_joins}
 use Rattle.layers.proofs.formed.counts_formed.Goals as goal
 

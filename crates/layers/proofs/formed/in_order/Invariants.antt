@@ -1,11 +1,8 @@
 use Prim.Native.Nat.{◌≤◌, ◌-◌}
-use native.Mathlib.Omega.{arith}
 use mathlib.Core.Path.{◌≡◌}
 use lib.ListN.{length, drop, get_or}
-use borrow.Author.Rules.{rules}
 use Rattle.paging.specs.Rows.{row_at, rows_of}
 use Rattle.layers.specs.Formed.{ordered, ordered_behind}
-use Rattle.layers.proofs.Reading.{order_none, order_first, order_first_bad, order_next, order_bad, order_end}
 use Rattle.layers.proofs.formed.in_order.Given as goal
 
 abbrev pub invariant-loop-i : goal.invariant-loop-i

@@ -1,5 +1,4 @@
 use native.Mathlib.Omega.{arith}
-use borrow.Author.Rules.{rules}
 use Rattle.layers.proofs.WellFormed.{sized_first, sized_second, sized_third, sized_last}
 use Rattle.layers.proofs.formed.layers_sized.Goals as goal
 

@@ -1,12 +1,8 @@
 use Prim.Native.Nat.{◌≤◌, ◌-◌}
-use native.Mathlib.Omega.{arith}
-use mathlib.Core.Path.{◌≡◌, ◌∙◌, sym}
+use mathlib.Core.Path.{◌≡◌}
 use lib.Dec.{ltb}
 use lib.ListN.{length, take}
-use borrow.Author.Rules.{rules}
-use borrow.Author.Tests.{eq-eqb}
 use Rattle.lists.specs.Pages.{count}
-use Rattle.layers.proofs.Reading.{above_next, above_found, count_whole}
 use Rattle.layers.proofs.formed.none_above.Given as goal
 
 abbrev pub invariant-loop-i : goal.invariant-loop-i

@@ -1,9 +1,6 @@
 use Prim.Native.Nat.{◌≤◌}
-use native.Mathlib.Omega.{arith}
 use mathlib.Core.Path.{◌≡◌}
-use borrow.Author.Rules.{rules}
 use Rattle.layers.specs.inner.Sizes.{single_in}
-use Rattle.layers.proofs.Reading.{single_next, single_bad, single_end}
 use Rattle.layers.proofs.formed.single_above.Given as goal
 
 abbrev pub invariant-loop-i : goal.invariant-loop-i

@@ -1,8 +1,4 @@
-use Prim.Native.Nat.{◌≤◌, ◌-◌}
 use native.Mathlib.Omega.{arith}
-use lib.ListN.{length, take}
-use borrow.Author.Rules.{rules}
-use Rattle.layers.specs.inner.Sizes.{Tallied}
 use Rattle.layers.proofs.Reading.{tally_start, tally_low, tally_one, tally_skip, tally_end}
 use Rattle.layers.proofs.formed.tally.Goals as goal
 

@@ -1,10 +1,6 @@
-use Prim.Native.Nat.{◌≤◌, ◌-◌}
 use native.Mathlib.Omega.{arith}
-use mathlib.Core.Path.{◌≡◌, ◌∙◌}
+use mathlib.Core.Path.{◌∙◌}
 use lib.Dec.{ltb}
-use lib.ListN.{length, take}
-use borrow.Author.Rules.{rules}
-use Rattle.lists.specs.Pages.{count}
 use Rattle.layers.proofs.Reading.{used_one, used_none, count_whole}
 use Rattle.layers.proofs.formed.used.Goals as goal
 

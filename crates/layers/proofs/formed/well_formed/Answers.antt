@@ -1,6 +1,5 @@
 -- `layers::formed::well_formed` meets its contract: the counts and the table together.
 use mathlib.Core.Path.{sym, ◌∙◌}
-use borrow.Author.Rules.{rules}
 use Rattle.layers.proofs.WellFormed.{well_by_table, ill_by_counts}
 use Rattle.layers.proofs.formed.well_formed.Goals as goal
 

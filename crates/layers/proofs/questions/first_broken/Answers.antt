@@ -1,8 +1,5 @@
-use Prim.Native.Nat.{ℕ, suc, ◌+◌, ◌-◌, ◌≤◌, ◌<◌}
 use native.Mathlib.Omega.{arith}
-use mathlib.Core.Path.{◌≡◌, refl}
-use borrow.Author.Rules.{rules}
-use Rattle.layers.specs.inner.Sizes.{sum_below}
+use mathlib.Core.Path.{refl}
 use Rattle.layers.proofs.Asking.{walk_next, walk_broken, walk_end}
 use Rattle.layers.proofs.questions.first_broken.Goals as goal
 

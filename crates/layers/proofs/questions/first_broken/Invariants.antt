@@ -1,9 +1,6 @@
 use Prim.Native.Nat.{ℕ, suc, ◌+◌, ◌-◌, ◌≤◌, ◌<◌}
-use native.Mathlib.Omega.{arith}
-use mathlib.Core.Path.{◌≡◌, refl}
-use borrow.Author.Rules.{rules}
+use mathlib.Core.Path.{◌≡◌}
 use Rattle.layers.specs.inner.Sizes.{sum_below}
-use Rattle.layers.proofs.Asking.{walk_next, walk_broken, walk_end}
 use Rattle.layers.proofs.questions.first_broken.Given as goal
 
 abbrev pub invariant-loop-i : goal.invariant-loop-i

@@ -1,9 +1,4 @@
-use Prim.Native.Nat.{◌+◌}
 use native.Mathlib.Omega.{arith}
-use mathlib.Core.Path.{◌≡◌}
-use borrow.Author.Rules.{rules}
-use Rattle.paging.specs.Table.{revealed}
-use Rattle.layers.specs.inner.Sizes.{numbered}
 use Rattle.layers.proofs.Asking.{top_start, top_next, top_stop, top_end}
 use Rattle.layers.proofs.questions.singles_at_top.Goals as goal
 

@@ -1,12 +1,8 @@
-use Prim.Native.Nat.{◌≤◌, ◌-◌}
 use native.Mathlib.Omega.{arith}
 use mathlib.Core.List.{map}
 use mathlib.Core.Path.{sym, ◌∙◌}
-use lib.ListN.{length, take}
-use borrow.Author.Rules.{rules}
 use Rattle.paging.specs.Rows.{rows_of}
 use Rattle.paging.specs.Table.{number_in}
-use Rattle.layers.specs.inner.Sizes.{Tallied}
 use Rattle.layers.proofs.Asking.{map_get, map_in, map_past}
 use Rattle.layers.proofs.Reading.{tally_start, tally_low, tally_one, tally_skip, tally_end}
 use Rattle.layers.proofs.questions.tally_set.Goals as goal

@@ -1,11 +1,8 @@
 use Prim.Native.Nat.{◌-◌, ◌≤◌}
-use native.Mathlib.Omega.{arith}
-use mathlib.Core.Path.{◌≡◌, refl}
+use mathlib.Core.Path.{◌≡◌}
 use lib.ListN.{length, drop}
-use borrow.Author.Rules.{rules}
 use Rattle.paging.specs.Rows.{rows_of}
 use Rattle.layers.specs.Traces.{all_unused}
-use Rattle.layers.proofs.TraceLaws.{unused_next, unused_number, unused_page, unused_end}
 use Rattle.layers.proofs.trace.all_unused.Given as goal
 
 abbrev pub invariant-loop-i : goal.invariant-loop-i

@@ -1,6 +1,5 @@
 -- `layers::trace::early_refusal` meets its contract: each test is a condition of `early_refusal`, in its order.
 use mathlib.Core.Path.{sym, ◌∙◌}
-use borrow.Author.Rules.{rules}
 use Rattle.layers.proofs.TraceLaws.{early_trace, early_uneven, early_used, early_none}
 use Rattle.layers.proofs.trace.early_refusal.Goals as goal
 

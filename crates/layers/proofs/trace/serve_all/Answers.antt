@@ -1,11 +1,9 @@
-use Prim.Native.Nat.{◌-◌}
 use native.Mathlib.Omega.{arith}
-use mathlib.Core.Path.{◌≡◌, refl, sym}
-use lib.ListN.{length, length-take, length-append, length-drop}
+use mathlib.Core.Path.{refl, sym}
+use lib.ListN.{length-take, length-append, length-drop}
 use lib.Seq.{length-take-le}
 use borrow.Author.Rules.{rules}
-use Rattle.paging.specs.Rows.{rows_of}
-use Rattle.layers.proofs.TraceLaws.{ServedSoFar, nothing_served, at_end, too_full, joins_fit, goes_on, stepped_lists, filled_prefix}
+use Rattle.layers.proofs.TraceLaws.{nothing_served, at_end, too_full, joins_fit, goes_on, stepped_lists, filled_prefix}
 use Rattle.layers.proofs.trace.serve_all.Goals as goal
 
 pub loop-i-init : goal.loop-i-init

@@ -1,11 +1,8 @@
 use Prim.Native.Nat.{◌-◌}
-use native.Mathlib.Omega.{arith}
-use mathlib.Core.Path.{◌≡◌, refl, sym}
-use lib.ListN.{length, length-take, length-append, length-drop}
-use lib.Seq.{length-take-le}
-use borrow.Author.Rules.{rules}
+use mathlib.Core.Path.{◌≡◌}
+use lib.ListN.{length}
 use Rattle.paging.specs.Rows.{rows_of}
-use Rattle.layers.proofs.TraceLaws.{ServedSoFar, nothing_served, at_end, too_full, joins_fit, goes_on, stepped_lists, filled_prefix}
+use Rattle.layers.proofs.TraceLaws.{ServedSoFar}
 use Rattle.layers.proofs.trace.serve_all.Given as goal
 
 abbrev pub invariant-loop-i : goal.invariant-loop-i

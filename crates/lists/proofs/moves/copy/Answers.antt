@@ -1,7 +1,6 @@
 -- `lists::moves::copy` meets its contract: as many places as the shorter list has are written.
 use native.Mathlib.Omega.{arith}
 use mathlib.Core.Path.{◌∙◌}
-use borrow.Author.Rules.{rules}
 use Rattle.lists.proofs.Leaves.{pasted_whole, pasted_part}
 use Rattle.lists.proofs.moves.copy.Goals as goal
 

@@ -1,7 +1,6 @@
 -- `lists::moves::drop_first` meets its contract: what stays is shifted to the front, and the places behind it are filled with zero.
 use native.Mathlib.Omega.{arith}
 use mathlib.Core.Path.{◌∙◌}
-use borrow.Author.Rules.{rules}
 use Rattle.lists.proofs.Leaves.{dropped_all, dropped_made}
 use Rattle.lists.proofs.moves.drop_first.Goals as goal
 

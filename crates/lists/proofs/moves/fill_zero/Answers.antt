@@ -1,9 +1,5 @@
-use Prim.Native.Nat.{◌≤◌, ◌-◌}
 use native.Mathlib.Omega.{arith}
-use mathlib.Core.Path.{◌≡◌}
-use lib.ListN.{length, replicate, length-set}
-use borrow.Author.Rules.{rules}
-use Rattle.lists.specs.Places.{over}
+use lib.ListN.{length-set}
 use Rattle.lists.proofs.Leaves.{over_none, zero_turn, zero_done}
 use Rattle.lists.proofs.moves.fill_zero.Goals as goal
 

@@ -1,11 +1,8 @@
 -- `lists::moves::fill_zero` meets its contract: the first i places are zero, the others as they were.
 use Prim.Native.Nat.{◌≤◌, ◌-◌}
-use native.Mathlib.Omega.{arith}
 use mathlib.Core.Path.{◌≡◌}
-use lib.ListN.{length, replicate, length-set}
-use borrow.Author.Rules.{rules}
+use lib.ListN.{length, replicate}
 use Rattle.lists.specs.Places.{over}
-use Rattle.lists.proofs.Leaves.{over_none, zero_turn, zero_done}
 use Rattle.lists.proofs.moves.fill_zero.Given as goal
 
 abbrev pub invariant-loop-i : goal.invariant-loop-i

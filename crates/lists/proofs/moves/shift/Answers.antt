@@ -1,9 +1,5 @@
-use Prim.Native.Nat.{◌≤◌, ◌-◌}
 use native.Mathlib.Omega.{arith}
-use mathlib.Core.Path.{◌≡◌}
-use lib.ListN.{length, drop, length-set}
-use borrow.Author.Rules.{rules}
-use Rattle.lists.specs.Places.{over}
+use lib.ListN.{length-set}
 use Rattle.lists.proofs.Leaves.{over_none, shift_turn, shift_done}
 use Rattle.lists.proofs.moves.shift.Goals as goal
 

@@ -1,11 +1,8 @@
 -- `lists::moves::shift` meets its contract: the first i places are those behind the first n, the others as they were.
 use Prim.Native.Nat.{◌≤◌, ◌-◌}
-use native.Mathlib.Omega.{arith}
 use mathlib.Core.Path.{◌≡◌}
-use lib.ListN.{length, drop, length-set}
-use borrow.Author.Rules.{rules}
+use lib.ListN.{length, drop}
 use Rattle.lists.specs.Places.{over}
-use Rattle.lists.proofs.Leaves.{over_none, shift_turn, shift_done}
 use Rattle.lists.proofs.moves.shift.Given as goal
 
 abbrev pub invariant-loop-i : goal.invariant-loop-i

@@ -1,10 +1,6 @@
-use Prim.Native.Nat.{◌≤◌, ◌-◌}
 use native.Mathlib.Omega.{arith}
-use mathlib.Core.Path.{◌≡◌}
-use lib.ListN.{length, length-set}
-use borrow.Author.Rules.{rules}
-use Rattle.lists.specs.Places.{over}
-use Rattle.lists.proofs.Leaves.{gap, moved_none, gap_start, gap_turn, gap_closed}
+use lib.ListN.{length-set}
+use Rattle.lists.proofs.Leaves.{moved_none, gap_start, gap_turn, gap_closed}
 use Rattle.lists.proofs.moves.to_end.Goals as goal
 
 pub returns-then-at-n : goal.returns-then-at-n

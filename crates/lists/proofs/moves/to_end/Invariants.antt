@@ -1,11 +1,9 @@
 -- `lists::moves::to_end` meets its contract: from the place on, the places up to i are one page ahead.
 use Prim.Native.Nat.{◌≤◌, ◌-◌}
-use native.Mathlib.Omega.{arith}
 use mathlib.Core.Path.{◌≡◌}
-use lib.ListN.{length, length-set}
-use borrow.Author.Rules.{rules}
+use lib.ListN.{length}
 use Rattle.lists.specs.Places.{over}
-use Rattle.lists.proofs.Leaves.{gap, moved_none, gap_start, gap_turn, gap_closed}
+use Rattle.lists.proofs.Leaves.{gap}
 use Rattle.lists.proofs.moves.to_end.Given as goal
 
 abbrev pub invariant-loop-i : goal.invariant-loop-i

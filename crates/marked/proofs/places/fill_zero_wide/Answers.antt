@@ -1,10 +1,6 @@
-use Prim.Native.Nat.{◌≤◌, ◌-◌}
 use native.Mathlib.Omega.{arith}
-use mathlib.Core.Path.{◌≡◌}
-use lib.ListN.{length, replicate, length-set}
-use borrow.Author.Rules.{rules}
+use lib.ListN.{length-set}
 use Rattle.lists.proofs.Leaves.{over_none, zero_turn, zero_done}
-use Rattle.lists.specs.Places.{over}
 use Rattle.marked.proofs.places.fill_zero_wide.Goals as goal
 
 pub loop-i-init : goal.loop-i-init

@@ -1,10 +1,7 @@
 -- `marked::places::fill_zero_wide` meets its contract: the first i places are zero, the others as they were.
 use Prim.Native.Nat.{◌≤◌, ◌-◌}
-use native.Mathlib.Omega.{arith}
 use mathlib.Core.Path.{◌≡◌}
-use lib.ListN.{length, replicate, length-set}
-use borrow.Author.Rules.{rules}
-use Rattle.lists.proofs.Leaves.{over_none, zero_turn, zero_done}
+use lib.ListN.{length, replicate}
 use Rattle.lists.specs.Places.{over}
 use Rattle.marked.proofs.places.fill_zero_wide.Given as goal
 

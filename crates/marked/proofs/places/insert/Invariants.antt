@@ -1,12 +1,9 @@
 -- `marked::places::insert` meets its contract: the places behind j are as they will be, the others as they were.
 use Prim.Native.Nat.{suc, ◌≤◌, ◌<◌}
-use native.Mathlib.Omega.{arith}
 use mathlib.Core.Path.{◌≡◌}
-use lib.ListN.{length, length-set}
-use borrow.Author.Rules.{rules}
+use lib.ListN.{length}
 use Rattle.lists.specs.Places.{over}
 use Rattle.marked.specs.Inner.{inserted}
-use Rattle.marked.proofs.Inserting.{insert_start, insert_turn, insert_end}
 use Rattle.marked.proofs.places.insert.Given as goal
 
 abbrev pub invariant-loop-j : goal.invariant-loop-j

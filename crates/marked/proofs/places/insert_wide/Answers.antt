@@ -1,10 +1,5 @@
-use Prim.Native.Nat.{suc, ◌≤◌, ◌<◌}
 use native.Mathlib.Omega.{arith}
-use mathlib.Core.Path.{◌≡◌}
-use lib.ListN.{length, length-set}
-use borrow.Author.Rules.{rules}
-use Rattle.lists.specs.Places.{over}
-use Rattle.marked.specs.Inner.{inserted}
+use lib.ListN.{length-set}
 use Rattle.marked.proofs.Inserting.{insert_start, insert_turn, insert_end}
 use Rattle.marked.proofs.places.insert_wide.Goals as goal
 

@@ -1,7 +1,6 @@
 -- `queue::serving::act` meets its contract: the three steps make what the request is served with.
 use native.Mathlib.Omega.{arith}
 use Rattle.queue.proofs.Served.{acted, can_settle, can_answer}
-use borrow.Author.Rules.{rules}
 use Rattle.queue.proofs.serving.act.Goals as goal
 
 pub settle-requires : goal.settle-requires

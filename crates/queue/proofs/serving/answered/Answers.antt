@@ -1,7 +1,6 @@
 -- `queue::serving::answered` meets its contract: each case tells what its definition says.
 use mathlib.Core.Path.{refl}
 use native.Mathlib.Omega.{arith}
-use borrow.Author.Rules.{rules}
 use Rattle.queue.proofs.serving.answered.Goals as goal
 
 pub overflow_sub-result : goal.overflow_sub-result

@@ -1,5 +1,4 @@
 -- `queue::serving::decide` meets its contract: the place found is below the length exactly if the page is held.
-use borrow.Author.Rules.{rules}
 use Rattle.queue.proofs.Served.{finds_held, finds_room, finds_full}
 use Rattle.queue.proofs.serving.decide.Goals as goal
 

@@ -2,7 +2,6 @@
 use native.Mathlib.Omega.{arith}
 use lib.ListN.{length-take}
 use Rattle.queue.proofs.Laying.{bundle_copied}
-use borrow.Author.Rules.{rules}
 use Rattle.queue.proofs.serving.evict.Goals as goal
 
 pub slice_bounds-copy-end : goal.slice_bounds-copy-end

@@ -1,7 +1,6 @@
 -- `queue::serving::hit` meets its contract: the page moved to the end of the pages held, then zeros up to k.
 use native.Mathlib.Omega.{arith}
 use lib.ListN.{length-take}
-use borrow.Author.Rules.{rules}
 use Rattle.queue.proofs.Laying.{hit_laid}
 use Rattle.queue.proofs.serving.hit.Goals as goal
 

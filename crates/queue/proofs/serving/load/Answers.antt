@@ -2,7 +2,6 @@
 use native.Mathlib.Omega.{arith}
 use lib.ListN.{length-set, length-take}
 use Rattle.queue.proofs.Laying.{load_cache_length, load_laid, load_length_kept}
-use borrow.Author.Rules.{rules}
 use Rattle.queue.proofs.serving.load.Goals as goal
 
 pub slice_bounds-drop_first-end-2 : goal.slice_bounds-drop_first-end-2

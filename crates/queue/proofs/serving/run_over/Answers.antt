@@ -1,10 +1,6 @@
-use Prim.Native.Nat.{◌≤◌, ◌-◌}
 use native.Mathlib.Omega.{arith}
-use mathlib.Core.Path.{◌≡◌, refl, ◌∙◌}
-use lib.ListN.{length, take}
+use mathlib.Core.Path.{refl, ◌∙◌}
 use lib.Seq.{length-take-le}
-use borrow.Author.Rules.{rules}
-use Rattle.queue.specs.Standing.{Stands}
 use Rattle.queue.proofs.Steps.{stands_first_lem, stands_ready, stands_next, stands_whole}
 use Rattle.queue.proofs.serving.run_over.Goals as goal
 

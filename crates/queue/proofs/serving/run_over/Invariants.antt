@@ -1,12 +1,8 @@
 -- `queue::serving::run_over` meets its contract: after i turns the state stands for the first i requests.
 use Prim.Native.Nat.{◌≤◌, ◌-◌}
-use native.Mathlib.Omega.{arith}
-use mathlib.Core.Path.{◌≡◌, refl, ◌∙◌}
+use mathlib.Core.Path.{◌≡◌}
 use lib.ListN.{length, take}
-use lib.Seq.{length-take-le}
-use borrow.Author.Rules.{rules}
 use Rattle.queue.specs.Standing.{Stands}
-use Rattle.queue.proofs.Steps.{stands_first_lem, stands_ready, stands_next, stands_whole}
 use Rattle.queue.proofs.serving.run_over.Given as goal
 
 abbrev pub invariant-loop-i : goal.invariant-loop-i

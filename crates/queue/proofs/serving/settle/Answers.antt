@@ -1,7 +1,6 @@
 -- `queue::serving::settle` meets its contract: in each case the cache list is as its definition says.
 use native.Mathlib.Omega.{arith}
 use Rattle.queue.proofs.Served.{hit_settled}
-use borrow.Author.Rules.{rules}
 use Rattle.queue.proofs.serving.settle.Goals as goal
 
 pub load-requires : goal.load-requires

@@ -1,7 +1,6 @@
 -- `queue::serving::step` meets its contract: what is decided is what is then served.
 use native.Mathlib.Omega.{arith}
 use lib.ListN.{length-take}
-use borrow.Author.Rules.{rules}
 use Rattle.queue.proofs.serving.step.Goals as goal
 
 pub slice_bounds-decide-end-2 : goal.slice_bounds-decide-end-2

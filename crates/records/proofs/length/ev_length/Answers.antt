@@ -1,6 +1,5 @@
 -- `records::length::ev_length` meets its contract: up to 256 pages the sum fits and is the record's length.
 use mathlib.Core.Path.{sym}
-use borrow.Author.Rules.{rules}
 use Rattle.records.proofs.Lengths.{ev_length_is, no_ev_length}
 use Rattle.records.proofs.length.ev_length.Goals as goal
 

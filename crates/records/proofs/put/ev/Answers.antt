@@ -3,7 +3,6 @@ use Prim.Native.Nat.{◌<◌, ◌≤◌}
 use native.Mathlib.Omega.{arith}
 use mathlib.Core.Path.{◌≡◌, ◌∙◌, sym}
 use lib.ListN.{length}
-use borrow.Author.Rules.{rules}
 use Rattle.wire.specs.Numbers.{bytes16, bytes32, all_bytes32}
 use Rattle.records.specs.Bytes.{ev_bytes, ev_length}
 use Rattle.records.specs.Marks.{mark_eV}

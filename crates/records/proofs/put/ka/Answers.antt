@@ -2,7 +2,6 @@
 use native.Mathlib.Omega.{arith}
 use mathlib.Core.Bool.{false}
 use mathlib.Core.Path.{refl}
-use borrow.Author.Rules.{rules}
 use Rattle.wire.specs.Numbers.{bytes16}
 use Rattle.records.specs.Bytes.{ka_bytes}
 use Rattle.records.specs.Marks.{mark_kA}

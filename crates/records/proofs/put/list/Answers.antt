@@ -1,9 +1,5 @@
-use Prim.Native.Nat.{◌≤◌, ◌-◌}
 use native.Mathlib.Omega.{arith}
-use mathlib.Core.Path.{◌≡◌, refl}
-use lib.ListN.{length, take}
-use borrow.Author.Rules.{rules}
-use Rattle.wire.specs.Numbers.{all_bytes32, placed}
+use mathlib.Core.Path.{refl}
 use Rattle.records.proofs.Writing.{none_placed, page_placed, all_placed}
 use Rattle.records.proofs.put.list.Goals as goal
 

@@ -1,11 +1,8 @@
 -- `records::put::list` meets its contract: after i turns the first i pages stand behind the fixed fields, and nothing else has changed.
 use Prim.Native.Nat.{◌≤◌, ◌-◌}
-use native.Mathlib.Omega.{arith}
-use mathlib.Core.Path.{◌≡◌, refl}
+use mathlib.Core.Path.{◌≡◌}
 use lib.ListN.{length, take}
-use borrow.Author.Rules.{rules}
 use Rattle.wire.specs.Numbers.{all_bytes32, placed}
-use Rattle.records.proofs.Writing.{none_placed, page_placed, all_placed}
 use Rattle.records.proofs.put.list.Given as goal
 
 abbrev pub invariant-loop-i : goal.invariant-loop-i

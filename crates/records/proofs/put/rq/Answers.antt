@@ -1,7 +1,6 @@
 -- `records::put::rq` meets its contract: with room for it the record stands at the start.
 use mathlib.Core.Bool.{false}
 use mathlib.Core.Path.{refl}
-use borrow.Author.Rules.{rules}
 use Rattle.records.specs.Bytes.{rq_bytes}
 use Rattle.records.proofs.Writing.{put_short, put_whole}
 use Rattle.records.proofs.put.rq.Goals as goal

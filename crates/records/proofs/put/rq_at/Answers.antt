@@ -1,6 +1,5 @@
 -- `records::put::rq_at` meets its contract: two stores, one behind the other, are the record.
 use native.Mathlib.Omega.{arith}
-use borrow.Author.Rules.{rules}
 use Rattle.wire.specs.Numbers.{bytes16, bytes32}
 use Rattle.records.specs.Marks.{mark_rQ}
 use Rattle.records.proofs.Writing.{stored2}

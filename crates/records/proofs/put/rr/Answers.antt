@@ -1,7 +1,6 @@
 -- `records::put::rr` meets its contract: with requests and with room for it the record stands at the start.
 use mathlib.Core.Path.{refl}
 use lib.Dec.{eqb}
-use borrow.Author.Rules.{rules}
 use borrow.Author.Tests.{eq-eqb, ne_eqb}
 use Rattle.records.specs.Bytes.{rr_bytes}
 use Rattle.records.proofs.Writing.{put_barred, put_short, put_whole}

@@ -1,7 +1,6 @@
 -- `records::put::rr_at` meets its contract: three stores, one behind the other, are the record.
 use native.Mathlib.Omega.{arith}
 use mathlib.Core.List.{◌++◌}
-use borrow.Author.Rules.{rules}
 use Rattle.wire.specs.Numbers.{bytes16, bytes32}
 use Rattle.records.specs.Marks.{mark_rR}
 use Rattle.records.proofs.Writing.{stored2}

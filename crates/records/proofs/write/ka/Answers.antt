@@ -2,7 +2,6 @@
 use native.Mathlib.Omega.{arith}
 use mathlib.Core.Bool.{false}
 use mathlib.Core.Path.{◌∙◌, sym, refl}
-use borrow.Author.Rules.{rules}
 use Rattle.paging.proofs.Refusals.{sizes_pass, sizes_fall, sizes_right}
 use Rattle.records.specs.Bytes.{ka_bytes}
 use Rattle.records.specs.Writing.{ka_refusal}

@@ -2,7 +2,6 @@
 use native.Mathlib.Omega.{arith}
 use mathlib.Core.Bool.{false}
 use mathlib.Core.Path.{◌∙◌, sym, refl}
-use borrow.Author.Rules.{rules}
 use Rattle.records.specs.Bytes.{rq_bytes}
 use Rattle.records.specs.Writing.{rq_refusal}
 use Rattle.records.proofs.Writing.{refuses, room_by, room_fits, put_fits, put_writes}

@@ -1,4 +1,3 @@
-use borrow.Author.Rules.{rules}
 use Rattle.repeats.proofs.BitLaws.{bit_is}
 use Rattle.repeats.proofs.bits.bit_in_word.Goals as goal
 

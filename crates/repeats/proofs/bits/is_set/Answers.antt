@@ -1,4 +1,3 @@
-use borrow.Author.Rules.{rules}
 use Rattle.repeats.proofs.BitLaws.{set_is}
 use Rattle.repeats.proofs.bits.is_set.Goals as goal
 

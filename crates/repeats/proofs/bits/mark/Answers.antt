@@ -1,5 +1,4 @@
 use mathlib.Core.Path.{◌∙◌}
-use borrow.Author.Rules.{rules}
 use Rattle.repeats.proofs.BitLaws.{mark_is}
 use Rattle.repeats.proofs.bits.mark.Goals as goal
 

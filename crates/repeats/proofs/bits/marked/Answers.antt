@@ -1,5 +1,4 @@
 use mathlib.Core.Path.{sym, ◌∙◌}
-use borrow.Author.Rules.{rules}
 use Rattle.repeats.proofs.BitLaws.{marked_is, not_marked}
 use Rattle.repeats.proofs.bits.marked.Goals as goal
 

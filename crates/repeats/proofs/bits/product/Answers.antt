@@ -1,5 +1,4 @@
 use native.Mathlib.Omega.{arith}
-use borrow.Author.Rules.{rules}
 use Rattle.repeats.proofs.BitLaws.{product_most, product_is}
 use Rattle.repeats.proofs.bits.product.Goals as goal
 

@@ -1,4 +1,3 @@
-use borrow.Author.Rules.{rules}
 use Rattle.repeats.proofs.BitLaws.{with_is}
 use Rattle.repeats.proofs.bits.set_bit.Goals as goal
 

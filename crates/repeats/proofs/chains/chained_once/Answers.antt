@@ -1,9 +1,7 @@
-use Prim.Native.Nat.{◌≤◌, ◌-◌}
 use native.Mathlib.Omega.{arith}
-use mathlib.Core.Path.{◌≡◌, refl, sym, ◌∙◌}
-use lib.ListN.{length, get_or, length-set}
-use borrow.Author.Rules.{rules}
-use Rattle.repeats.proofs.ChainLaws.{Threaded, threaded_none, threaded_linked, found_twice, found_new, threaded_all}
+use mathlib.Core.Path.{refl, sym, ◌∙◌}
+use lib.ListN.{get_or, length-set}
+use Rattle.repeats.proofs.ChainLaws.{threaded_none, threaded_linked, found_twice, found_new, threaded_all}
 use Rattle.repeats.proofs.FreshLaws.{slot_le}
 use Rattle.repeats.proofs.chains.chained_once.Goals as goal
 

@@ -1,11 +1,8 @@
 -- `lists::chains::chained_once` meets its contract: the pages before place i are repeat-free, and each is in its slot's chain.
 use Prim.Native.Nat.{◌≤◌, ◌-◌}
-use native.Mathlib.Omega.{arith}
-use mathlib.Core.Path.{◌≡◌, refl, sym, ◌∙◌}
-use lib.ListN.{length, get_or, length-set}
-use borrow.Author.Rules.{rules}
-use Rattle.repeats.proofs.ChainLaws.{Threaded, threaded_none, threaded_linked, found_twice, found_new, threaded_all}
-use Rattle.repeats.proofs.FreshLaws.{slot_le}
+use mathlib.Core.Path.{◌≡◌}
+use lib.ListN.{length}
+use Rattle.repeats.proofs.ChainLaws.{Threaded}
 use Rattle.repeats.proofs.chains.chained_once.Given as goal
 
 abbrev pub invariant-loop-i : goal.invariant-loop-i

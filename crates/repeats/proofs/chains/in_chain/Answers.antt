@@ -1,8 +1,6 @@
-use Prim.Native.Nat.{◌≤◌, ◌-◌}
+use Prim.Native.Nat.{◌-◌}
 use native.Mathlib.Omega.{arith}
-use mathlib.Core.Path.{◌≡◌, refl, sym, ◌∙◌}
-use borrow.Author.Rules.{rules}
-use Rattle.repeats.specs.Chains.{in_chain}
+use mathlib.Core.Path.{refl, sym, ◌∙◌}
 use Rattle.repeats.proofs.ChainLaws.{chain_ended, chain_here, chain_next}
 use Rattle.repeats.proofs.chains.in_chain.Goals as goal
 

@@ -1,10 +1,7 @@
 -- `lists::chains::in_chain` meets its contract: from the link on, the chain answers as from its start.
-use Prim.Native.Nat.{◌≤◌, ◌-◌}
-use native.Mathlib.Omega.{arith}
-use mathlib.Core.Path.{◌≡◌, refl, sym, ◌∙◌}
-use borrow.Author.Rules.{rules}
+use Prim.Native.Nat.{◌≤◌}
+use mathlib.Core.Path.{◌≡◌}
 use Rattle.repeats.specs.Chains.{in_chain}
-use Rattle.repeats.proofs.ChainLaws.{chain_ended, chain_here, chain_next}
 use Rattle.repeats.proofs.chains.in_chain.Given as goal
 
 abbrev pub invariant-loop-link : goal.invariant-loop-link

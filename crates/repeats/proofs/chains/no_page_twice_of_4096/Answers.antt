@@ -1,6 +1,5 @@
 -- `lists::chains::no_page_twice_of_4096` meets its contract: its tables fit the list and are all zero.
 use native.Mathlib.Omega.{arith}
-use borrow.Author.Rules.{rules}
 use Rattle.repeats.proofs.ChainLaws.{unlinked}
 use Rattle.repeats.proofs.chains.no_page_twice_of_4096.Goals as goal
 

@@ -1,10 +1,8 @@
-use Prim.Native.Nat.{◌≤◌, ◌-◌}
 use native.Mathlib.Omega.{arith}
-use mathlib.Core.Path.{◌≡◌, refl, sym, ◌∙◌}
-use lib.ListN.{length, get_or, length-set, length-take}
-use borrow.Author.Rules.{rules}
+use mathlib.Core.Path.{refl, sym, ◌∙◌}
+use lib.ListN.{get_or, length-set, length-take}
 use Rattle.lists.proofs.Leaves.{twice_at}
-use Rattle.repeats.proofs.FreshLaws.{Fresh, fresh_none, fresh_unmarked, fresh_looked, fresh_all, slot_le}
+use Rattle.repeats.proofs.FreshLaws.{fresh_none, fresh_unmarked, fresh_looked, fresh_all, slot_le}
 use Rattle.repeats.proofs.marks.new_pages_only.Goals as goal
 
 pub loop-next-init : goal.loop-next-init

@@ -1,5 +1,4 @@
 -- `lists::slots::slot` meets its contract: a page has 32 bits, so the product fits.
-use borrow.Author.Rules.{rules}
 use Rattle.repeats.proofs.ChainLaws.{slot_is}
 use Rattle.repeats.proofs.slots.slot.Goals as goal
 
