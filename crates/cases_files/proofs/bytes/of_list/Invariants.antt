@@ -1,9 +1,6 @@
 use Prim.Native.Nat.{◌≤◌, ◌-◌}
-use native.Mathlib.Omega.{arith}
 use mathlib.Core.Path.{◌≡◌}
-use lib.ListN.{length, length-set}
-use borrow.Author.Rules.{rules}
-use Rattle.cases_rows.proofs.Laws.{counts}
+use lib.ListN.{length}
 use Rattle.cases_files.proofs.bytes.of_list.Given as goal
 
 abbrev pub invariant-loop-i : goal.invariant-loop-i
