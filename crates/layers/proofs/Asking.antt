@@ -24,43 +24,24 @@ use Rattle.layers.specs.Questions.{revealed_reply, RevealedTold, layers_in, refu
 use Rattle.layers.specs.declared.LayersRun.{LayersRun}
 use Rattle.layers.specs.declared.PossibleAnswer.{PossibleAnswer}
 use Rattle.layers.specs.declared.PossibleAnswer.TheVariants.{Yes, CountDiffers, BrokenAt, Refused}
-use Rattle.layers.specs.inner.Sizes.{Tallied, numbered, sum_below, Walked}
+use Rattle.layers.specs.inner.Sizes.{Tallied, numbered, sum_below, times_in, Walked}
 use Rattle.layers.proofs.Order.{ordered_sorted, revealed_last}
 use Rattle.layers.proofs.Refusing.{StateReady, state_pass, state_fall, sound}
 use Rattle.layers.proofs.WellFormed.{facts, well_table, size_times, size_numbered}
 
 -- Revealed pages: the layers from s down
 
-module _ (ns sizes : List ℕ) (t : Tallied ns sizes) (s i n : ℕ) (h : 0 < i) (g : i < 257) (was : revealed s (numbered ns) ≡ n + revealed i (numbered ns)) where
-  size_told : get_or sizes i 0 ≡ size_of i (numbered ns)
-  size_told = t.each i g ∙ sym (size_numbered ns i)
+pub revealed_more : (i : ℕ) (ns : List ℕ) → 0 < i → times_in i ns ≡ 1 → revealed i (numbered ns) ≡ revealed (i - 1) (numbered ns) + 1
+revealed_more zero ns h e = absurd (omega arith)
+revealed_more (suc i) ns h e =
+    let back : suc i - 1 ≡ i = omega arith in
+    rw back (rw (eq-eqb (size_of (suc i) (numbered ns)) 1 (size_numbered ns (suc i) ∙ e)) (omega arith))
 
-  pub top_next : get_or sizes i 0 ≡ 1 → revealed s (numbered ns) ≡ (n + 1) + revealed (i - 1) (numbered ns)
-  top_next e = top_next_at i refl
-    where
-      top_next_at : (j : ℕ) → i ≡ j → revealed s (numbered ns) ≡ (n + 1) + revealed (j - 1) (numbered ns)
-      top_next_at zero q = absurd (omega arith)
-      top_next_at (suc j) q =
-          let back : suc j - 1 ≡ j = omega arith in
-          let one : size_of (suc j) (numbered ns) ≡ 1 = ap (λ m. size_of m (numbered ns)) (sym q) ∙ sym size_told ∙ e in
-          let here : revealed (suc j) (numbered ns) ≡ suc (revealed j (numbered ns)) = rw (eq-eqb (size_of (suc j) (numbered ns)) 1 one) in
-          rw back (was ∙ rw (q, here) (omega arith))
+pub revealed_stop : (i : ℕ) (ns : List ℕ) → 0 < i → (times_in i ns ≡ 1 → ⊥) → revealed i (numbered ns) ≡ 0
+revealed_stop zero ns h e = absurd (omega arith)
+revealed_stop (suc i) ns h e = rw (ne_eqb (size_of (suc i) (numbered ns)) 1 (λ z. e (sym (size_numbered ns (suc i)) ∙ z)))
 
-  pub top_stop : (get_or sizes i 0 ≡ 1 → ⊥) → n ≡ revealed s (numbered ns)
-  top_stop e = top_stop_at i refl
-    where
-      top_stop_at : (j : ℕ) → i ≡ j → n ≡ revealed s (numbered ns)
-      top_stop_at zero q = absurd (omega arith)
-      top_stop_at (suc j) q =
-          let more : size_of (suc j) (numbered ns) ≡ 1 → ⊥ = λ z. e (size_told ∙ ap (λ m. size_of m (numbered ns)) q ∙ z) in
-          let here : revealed (suc j) (numbered ns) ≡ 0 = rw (ne_eqb (size_of (suc j) (numbered ns)) 1 more) in
-          sym (was ∙ rw (q, here) (omega arith))
-
-pub top_start : (ns : List ℕ) (s i : ℕ) → i ≡ s → revealed s (numbered ns) ≡ 0 + revealed i (numbered ns)
-top_start ns s i e = rw e (omega arith)
-
-pub top_end : (ns : List ℕ) (s i n : ℕ) → i ≤ 0 → revealed s (numbered ns) ≡ n + revealed i (numbered ns) → n ≡ revealed s (numbered ns)
-top_end ns s i n h was = let z : i ≡ 0 = omega arith in sym (was ∙ rw z (omega arith))
+pub ruleset revealed_rules = (revealed_more, revealed_stop)
 
 -- only layers above 0 count
 size_used : (i : ℕ) (rows : List Row) → size_of (suc i) (used_rows rows) ≡ size_of (suc i) rows

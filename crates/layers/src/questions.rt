@@ -9,6 +9,7 @@ use crate::formed::NUMBERS;
 use crate::{PossibleAnswer, formed};
 
 // How many layers from s down have a single page.
+#[tactic(auto, using(crate::proofs::Asking::revealed_rules))]
 pub(crate) fn singles_at_top(numbers: &[u32], s: u32) -> u32
     requires { s ≤ largest_k }
     ensures { result ≡ revealed s (numbered numbers.now) }
