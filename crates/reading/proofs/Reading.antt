@@ -13,6 +13,7 @@ use Rattle.paging.specs.Refusals.{sizes_refusal}
 use Rattle.wire.specs.Numbers.{num16, num32}
 use Rattle.records.specs.Bytes.{ev_length}
 use Rattle.records.specs.Marks.{Mark, KA, bad, mark_of, mark_at}
+use Rattle.records.proofs.Lengths.{ev_length_is}
 use Rattle.reading.specs.Reading.{Answer, refused, ended, sizes, request, bundle, fetch, unless, ka_read, rq_read, rr_read, request_read, ev_read, pf_read, entry_read, count_refused}
 use Rattle.reading.specs.Reading.{read_trace, read_schedule}
 
@@ -26,6 +27,8 @@ module _ (s : List ℕ) (at : ℕ) where
   pub mark_read : {m : Mark} → 2 ≤ length s - at → m ≡ mark_of (num16 (drop at s)) → m ≡ mark_at (drop at s)
   unfolding mark_at
   mark_read h e = rw (length-drop at s, le-ltb (length s - at) 2 h) e
+
+pub ruleset mark_rules = (mark_cut, mark_read)
 
 -- ---- KA
 
@@ -130,6 +133,11 @@ module _ (bound n : ℕ) where
   unfolding count_refused ◌or◌
   count_fine z h f = rw (ne_eqb n 0 z, le-ltb bound n h, le-ltb 256 n f)
 
+pub ruleset run_rules = (rr_cut, rr_none, rr_taken)
+
+pub ruleset bundle_rules =
+    (ev_cut, ev_count, ev_pages_cut, ev_taken, count_none, count_above, count_far, count_fine, ev_length_is)
+
 -- ---- the readers: what is behind the offset's tests
 
 -- both readers differ only in what is expected behind the KA
@@ -204,3 +212,5 @@ module _ (s : List ℕ) (from n : ℕ) where
   pages_whole =
       let e : from + 4 * n - from ≡ 4 * n = omega arith in
       ap (λ (m : ℕ). take m (drop from s)) e
+
+pub ruleset pages_rules = (pages_none, pages_rest, pages_whole)

@@ -67,7 +67,7 @@ module _ (call : WriterCall) (calls : List WriterCall) (x : WriterState) (all : 
   first_fits = room_fits (call_bytes call) x.out x.at (accepted call x.out x.at first_zero).1
 
   first_puts : writer_next call x ≡ put (call_bytes call) x
-  first_puts = rw first_zero
+  first_puts = rw first_zero refl
 
   others_accepted : all_accepted calls (put (call_bytes call) x) ≡ true
   others_accepted = let others : all_accepted calls (writer_next call x) ≡ true = and_r _ _ all in rw first_puts at others

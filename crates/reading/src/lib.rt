@@ -54,6 +54,7 @@ pub enum ScheduleRecord {
 // The most pages of an EV for a reader of records, which has no a.
 const MOST: u32 = paging::Sizes::K_MAX;
 
+#[tactic(auto, using(crate::proofs::Reading::mark_rules))]
 fn mark_at(s: &[u8], at: usize) -> Kind
     requires { at ≤ length s.now }
     ensures { kind_mark result ≡ mark_at (drop at s.now) }
@@ -136,6 +137,7 @@ pub fn schedule(s: &[u8], at: usize) -> ScheduleRecord
 
 // The bytes of n pages from an offset on, as a part of the file; where the file ends before, those that are there. It only cuts: the answer that
 // has `from` and n has judged 5, 6 and 9 of them.
+#[tactic(auto, using(crate::proofs::Reading::pages_rules))]
 pub fn pages(s: &[u8], from: usize, n: usize) -> &[u8]
     ensures { result.now ≡ take (4 * n) (drop from s.now) }
 {
@@ -196,6 +198,7 @@ fn single(s: &[u8], at: usize) -> TraceRecord
 }
 
 // The fields of an RR behind its mark.
+#[tactic(auto, using(crate::proofs::Reading::run_rules))]
 fn run(s: &[u8], at: usize) -> TraceRecord
     requires { at ≤ length s.now }
     ensures { trace_answer result ≡ rr_read (drop at s.now) at }
@@ -232,6 +235,7 @@ fn entry(s: &[u8], at: usize, bound: u32) -> ScheduleRecord
 }
 
 // The fields of an EV behind its mark.
+#[tactic(auto, using(crate::proofs::Reading::bundle_rules))]
 fn bundle(s: &[u8], at: usize, bound: u32) -> ScheduleRecord
     requires { at ≤ length s.now }
     ensures { schedule_answer result ≡ ev_read bound (drop at s.now) at }

@@ -17,6 +17,8 @@ ev_length_is n h = rw (le-ltb 256 n h)
 pub no_ev_length : (n : ℕ) → 256 < n → ev_length_answer n ≡ 0
 no_ev_length n h = rw (lt-ltb 256 n h)
 
+pub ruleset length_rules = (ev_length_is, no_ev_length)
+
 pub length_ev_bytes : (t : ℕ) (pages : List ℕ) → length (ev_bytes t pages) ≡ ev_length (length pages)
 length_ev_bytes t pages = omega (arith, length_all_bytes32 pages)
 

@@ -12,10 +12,11 @@ use lib.Seq.{drop-drop, take_all, take-suc}
 use borrow.Author.Tests.{lt-ltb, le-ltb, eq-eqb, ne_eqb, ltb-false}
 use Rattle.lists.specs.Choice.{pick, ◌or◌}
 use Rattle.lists.proofs.Choice.{tests, or_none_l, or_none_r}
-use Rattle.paging.specs.Refusals.{refuse}
+use Rattle.paging.specs.Refusals.{refuse, sizes_refusal}
+use Rattle.paging.proofs.Refusals.{sizes_fall}
 use Rattle.wire.specs.Numbers.{bytes32, all_bytes32, placed}
 use Rattle.wire.proofs.Numbers.{placed_join, length_placed, length_all_bytes32}
-use Rattle.records.specs.Writing.{stored, refused, room_refusal, pages_refused, wrote, out_after, put_length, put_bytes}
+use Rattle.records.specs.Writing.{stored, refused, room_refusal, pages_refused, ka_refusal, rr_refusal, ev_refusal, wrote, out_after, put_length, put_bytes}
 
 -- ---- stores one behind the other, from the start on
 
@@ -131,6 +132,20 @@ module _ (n : ℕ) where
       let few : ltb 256 n ≡ false = or_none_r _ _ e in
       (omega tests, omega tests)
 
+-- ---- the room
+
+module _ (len at size : ℕ) where
+  pub room_past : len < at → 9 ≡ refuse (ltb len at) 9 (refuse (ltb (len - at) size) 8 0)
+  room_past h = rw (lt-ltb len at h)
+
+  pub room_short : at ≤ len → len - at < size → 8 ≡ refuse (ltb len at) 9 (refuse (ltb (len - at) size) 8 0)
+  room_short h l = rw (le-ltb len at h, lt-ltb (len - at) size l)
+
+  pub room_enough : at ≤ len → size ≤ len - at → 0 ≡ refuse (ltb len at) 9 (refuse (ltb (len - at) size) 8 0)
+  room_enough h l = rw (le-ltb len at h, le-ltb (len - at) size l)
+
+pub ruleset room_rules = (room_past, room_short, room_enough)
+
 -- ---- the rest of the lent bytes comes back into the whole
 
 -- `part` is what the rest was lent as, `back` what the whole is when the rest comes back as `rest`
@@ -208,3 +223,48 @@ pub refuses : (b out : List ℕ) (at n r : ℕ) → (n ≡ 0 → ⊥) → r ≡ 
     → (refused n ≡ wrote r b at) × (out ≡ out_after r b out at)
 refuses b out at zero r z e = absurd (z refl)
 refuses b out at (suc n) r z e = (rw e, rw e)
+
+-- the refusals that come before the room's: the answer is the number, and no byte changes
+module _ (b out : List ℕ) (at : ℕ) where
+  module _ (k a n : ℕ) (e : n ≡ sizes_refusal k a 0) (z : n ≡ 0 → ⊥) where
+    pub ka_refused : refused n ≡ wrote (ka_refusal k a out at) b at
+    unfolding ka_refusal
+    ka_refused = (refuses b out at n (ka_refusal k a out at) z (sizes_fall k a _ n e z)).0
+
+    pub ka_kept : out ≡ out_after (ka_refusal k a out at) b out at
+    unfolding ka_refusal
+    ka_kept = (refuses b out at n (ka_refusal k a out at) z (sizes_fall k a _ n e z)).1
+
+  module _ (page times : ℕ) (e : times ≡ 0) where
+    thirteen : rr_refusal page times out at ≡ 13
+    unfolding rr_refusal
+    thirteen = rw (eq-eqb times 0 e)
+
+    pub rr_refused : refused 13 ≡ wrote (rr_refusal page times out at) b at
+    rr_refused = rw thirteen
+
+    pub rr_kept : out ≡ out_after (rr_refusal page times out at) b out at
+    rr_kept = rw thirteen
+
+  module _ (t : ℕ) (pages : List ℕ) where
+    six : pages_refused (length pages) ≡ true → ev_refusal t pages out at ≡ 6
+    unfolding ev_refusal
+    six e = rw e
+
+    pub ev_none_refused : length pages ≡ 0 → refused 6 ≡ wrote (ev_refusal t pages out at) b at
+    ev_none_refused e = rw (six (pages_none (length pages) e))
+
+    pub ev_none_kept : length pages ≡ 0 → out ≡ out_after (ev_refusal t pages out at) b out at
+    ev_none_kept e = rw (six (pages_none (length pages) e))
+
+    pub ev_many_refused : 256 < length pages → refused 6 ≡ wrote (ev_refusal t pages out at) b at
+    ev_many_refused h = rw (six (pages_many (length pages) (λ e. omega arith) h))
+
+    pub ev_many_kept : 256 < length pages → out ≡ out_after (ev_refusal t pages out at) b out at
+    ev_many_kept h = rw (six (pages_many (length pages) (λ e. omega arith) h))
+
+pub ruleset ka_rules = (ka_refused, ka_kept)
+
+pub ruleset rr_rules = (rr_refused, rr_kept)
+
+pub ruleset ev_rules = (ev_none_refused, ev_none_kept, ev_many_refused, ev_many_kept)

@@ -19,6 +19,7 @@ pub const PAGES_MAX: usize = paging::Sizes::K_MAX as usize;
 
 // The length of an EV with n pages. No EV has more than 256: 0 is answered for more, where 4n might not even fit. Inner: whoever calls it
 // has judged n (6) before.
+#[tactic(auto, using(crate::proofs::Lengths::length_rules))]
 pub fn ev_length(n: usize) -> usize
     ensures { result ≡ ev_length_answer n }
 {

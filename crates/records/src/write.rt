@@ -14,6 +14,7 @@ pub enum Written {
     Refused(u32),
 }
 
+#[tactic(auto, using(crate::proofs::Writing::ka_rules))]
 pub fn ka(out: &mut [u8], at: usize, k: u32, a: u32) -> Written
     ensures { (written_answer result ≡ wrote (ka_refusal k a out.old at) (ka_bytes k a) at)
         × (out.new ≡ out_after (ka_refusal k a out.old at) (ka_bytes k a) out.old at) }
@@ -43,6 +44,7 @@ pub fn rq(out: &mut [u8], at: usize, page: u32) -> Written
 }
 
 // So many requests for a page in a row: 13 for none, then 9, then 8.
+#[tactic(auto, using(crate::proofs::Writing::rr_rules))]
 pub fn rr(out: &mut [u8], at: usize, page: u32, times: u16) -> Written
     ensures { (written_answer result ≡ wrote (rr_refusal page times out.old at) (rr_bytes page times) at)
         × (out.new ≡ out_after (rr_refusal page times out.old at) (rr_bytes page times) out.old at) }
@@ -58,6 +60,7 @@ pub fn rr(out: &mut [u8], at: usize, page: u32, times: u16) -> Written
     Written::Next(at + size)
 }
 
+#[tactic(auto, using(crate::proofs::Writing::ev_rules))]
 pub fn ev(out: &mut [u8], at: usize, t: u32, pages: &[u32]) -> Written
     ensures { (written_answer result ≡ wrote (ev_refusal t pages.now out.old at) (ev_bytes t pages.now) at)
         × (out.new ≡ out_after (ev_refusal t pages.now out.old at) (ev_bytes t pages.now) out.old at) }
@@ -90,6 +93,7 @@ pub fn pf(out: &mut [u8], at: usize, t: u32, page: u32) -> Written
 }
 
 // A record of `size` bytes is to go into `len` lent bytes from `at` on: 9, then 8, else 0.
+#[tactic(auto, using(crate::proofs::Writing::room_rules))]
 fn room(len: usize, at: usize, size: usize) -> u32
     ensures { result ≡ refuse (ltb len at) 9 (refuse (ltb (len - at) size) 8 0) }
 {

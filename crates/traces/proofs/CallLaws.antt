@@ -48,7 +48,7 @@ pub record CountedWhole (limit : ℕ) (file : List ℕ) (told : TraceCount) : Ty
 module _ (limit : ℕ) (file : List ℕ) (told : TraceCount) (e : told ≡ count_of (trace_file limit file)) where
   damaged_as : (x : TraceFile) → told ≡ count_of x → (told.refusal ≡ 0 → ⊥) → x ≡ damaged told.refusal
   damaged_as (whole k a pages) q h = absurd (h (ap (λ (r : TraceCount). r.refusal) q))
-  damaged_as (damaged number) q h = ap (λ (r : TraceCount). damaged r.refusal) (sym q)
+  damaged_as (damaged n) q h = ap (λ (r : TraceCount). damaged r.refusal) (sym q)
 
   pub count_refused_lem : (told.refusal ≡ 0 → ⊥) → trace_file limit file ≡ damaged told.refusal
   count_refused_lem h = damaged_as (trace_file limit file) e h
@@ -88,3 +88,5 @@ module _ (limit : ℕ) (file lent : List ℕ) (told : TraceCount) (e : told ≡ 
     -- once the requests stand in the list it is as promised
     pub list_filled : (now : List ℕ) → now ≡ (requests_from file 6).held ++ drop told.requests lent → now ≡ pages_after (trace_file limit file) lent
     list_filled now q = q ∙ in_front_lem lent (trace_file limit file) told.k told.a told.requests counted.pages _ counted.is held counted.all
+
+pub ruleset fill_rules = (refused_unchanged, list_filled)

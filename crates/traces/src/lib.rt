@@ -67,6 +67,7 @@ pub fn count(file: &[u8], most: usize) -> TraceCount
 }
 
 // The same, and the requests go into a lent list, whose length is the most that are taken. A file that is refused changes nothing in it.
+#[tactic(auto, using(crate::proofs::CallLaws::fill_rules))]
 pub fn fill(file: &[u8], pages: &mut [u32]) -> TraceCount
     ensures { (result ≡ count_of (trace_file (length pages.old) file.now))
         × (pages.new ≡ pages_after (trace_file (length pages.old) file.now) pages.old) }

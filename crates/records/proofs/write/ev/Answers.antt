@@ -2,32 +2,33 @@
 use native.Mathlib.Omega.{arith}
 use mathlib.Core.Path.{◌∙◌, sym, refl}
 use lib.ListN.{length}
-use borrow.Author.Tests.{eqb-false}
 use Rattle.records.specs.Bytes.{ev_bytes}
 use Rattle.records.specs.Writing.{ev_refusal, pages_refused}
 use Rattle.records.proofs.Lengths.{ev_length_is, length_ev_bytes}
-use Rattle.records.proofs.Writing.{refuses, room_by, room_fits, put_fits, put_writes, pages_none, pages_many, pages_fine}
+use Rattle.records.proofs.Writing.{refuses, room_by, room_fits, put_fits, put_writes, pages_fine}
 use Rattle.records.proofs.write.ev.Goals as goal
 
-pub returns-then-n-eq0 : goal.returns-then-n-eq0
+pub returns : goal.returns
 unfolding ev_refusal
-returns-then-n-eq0 c =
+returns c =
     let offset = c.args.at in
     let out = c.args.out.now in
     let pages = c.args.pages.now in
     let t = c.args.t in
-    refuses (ev_bytes t pages) out offset 6 (ev_refusal t pages out offset) (eqb-false 6 0 refl)
-    (rw (pages_none _ c.if-n-eq0.true))
-
-pub returns-then-n-gt-PAGES_MAX : goal.returns-then-n-gt-PAGES_MAX
-unfolding ev_refusal
-returns-then-n-gt-PAGES_MAX c =
-    let offset = c.args.at in
-    let out = c.args.out.now in
-    let pages = c.args.pages.now in
-    let t = c.args.t in
-    refuses (ev_bytes t pages) out offset 6 (ev_refusal t pages out offset) (eqb-false 6 0 refl)
-    (rw (pages_many _ c.if-n-eq0.false c.if-n-gt-PAGES_MAX.true))
+    let ev-length = c.ev_length in
+    let room = c.room-no in
+    let if3 = c.if-no-ne0 in
+    let ev = c.ev-size in
+    let none = sym if3.false ∙ room_by (ev_bytes t pages) out offset _ _
+    (ev-length.ensures ∙
+    (ev_length_is _ (omega arith) ∙ sym (length_ev_bytes t pages)))
+    room.ensures in
+    put_writes (ev_bytes t pages) out offset none ev.result ev.new.rest
+    (pages_refused (length pages))
+    (pages_fine _ (λ e. omega arith) (omega arith)) ev.ensures.0 ev.ensures.1
+    (ev_refusal t pages out offset)
+    (rw
+    (pages_fine (length pages) (λ e. omega arith) (omega arith)) ((sym none)))
 
 pub returns-then-no-ne0 : goal.returns-then-no-ne0
 unfolding ev_refusal
@@ -36,14 +37,12 @@ returns-then-no-ne0 c =
     let out = c.args.out.now in
     let pages = c.args.pages.now in
     let t = c.args.t in
-    let if1 = c.if-n-eq0 in
-    let if2 = c.if-n-gt-PAGES_MAX in
     let ev-length = c.ev_length in
     refuses (ev_bytes t pages) out offset _ (ev_refusal t pages out offset) c.if-no-ne0.true
-    (rw (pages_fine (length pages) if1.false if2.false)
+    (rw (pages_fine (length pages) (λ e. omega arith) (omega arith))
     ((sym
     (room_by (ev_bytes t pages) out offset _ _
-    (ev-length.ensures ∙ (ev_length_is _ if2.false ∙ sym (length_ev_bytes t pages)))
+    (ev-length.ensures ∙ (ev_length_is _ (omega arith) ∙ sym (length_ev_bytes t pages)))
     c.room-no.ensures))))
 
 pub slice_bounds-ev-count : goal.slice_bounds-ev-count
@@ -52,13 +51,12 @@ slice_bounds-ev-count c =
     let out = c.args.out.now in
     let pages = c.args.pages.now in
     let t = c.args.t in
-    let if2 = c.if-n-gt-PAGES_MAX in
     let ev-length = c.ev_length in
     omega (
       arith,
       room_fits (ev_bytes t pages) out offset
           (sym c.if-no-ne0.false ∙ room_by (ev_bytes t pages) out offset _ _
-          (ev-length.ensures ∙ (ev_length_is _ if2.false ∙ sym (length_ev_bytes t pages)))
+          (ev-length.ensures ∙ (ev_length_is _ (omega arith) ∙ sym (length_ev_bytes t pages)))
           c.room-no.ensures),
     )
 
@@ -68,13 +66,12 @@ slice_bounds-ev-start c =
     let out = c.args.out.now in
     let pages = c.args.pages.now in
     let t = c.args.t in
-    let if2 = c.if-n-gt-PAGES_MAX in
     let ev-length = c.ev_length in
     omega (
       arith,
       room_fits (ev_bytes t pages) out offset
           (sym c.if-no-ne0.false ∙ room_by (ev_bytes t pages) out offset _ _
-          (ev-length.ensures ∙ (ev_length_is _ if2.false ∙ sym (length_ev_bytes t pages)))
+          (ev-length.ensures ∙ (ev_length_is _ (omega arith) ∙ sym (length_ev_bytes t pages)))
           c.room-no.ensures),
     )
 
@@ -84,46 +81,17 @@ overflow_add-result c =
     let out = c.args.out.now in
     let pages = c.args.pages.now in
     let t = c.args.t in
-    let if1 = c.if-n-eq0 in
-    let if2 = c.if-n-gt-PAGES_MAX in
     let ev-length = c.ev_length in
     let room = c.room-no in
     let if3 = c.if-no-ne0 in
     let ev = c.ev-size in
     let none = sym if3.false ∙ room_by (ev_bytes t pages) out offset _ _
     (ev-length.ensures ∙
-    (ev_length_is _ if2.false ∙ sym (length_ev_bytes t pages)))
+    (ev_length_is _ (omega arith) ∙ sym (length_ev_bytes t pages)))
     room.ensures in
     omega (
       arith,
       put_fits (ev_bytes t pages) out offset none ev.result ev.new.rest
           (pages_refused (length pages))
-          (pages_fine _ if1.false
-          if2.false) ev.ensures.0 ev.ensures.1,
+          (pages_fine _ (λ e. omega arith) (omega arith)) ev.ensures.0 ev.ensures.1,
     )
-
-pub returns : goal.returns
-unfolding ev_refusal
-returns c =
-    let offset = c.args.at in
-    let out = c.args.out.now in
-    let pages = c.args.pages.now in
-    let t = c.args.t in
-    let if1 = c.if-n-eq0 in
-    let if2 = c.if-n-gt-PAGES_MAX in
-    let ev-length = c.ev_length in
-    let room = c.room-no in
-    let if3 = c.if-no-ne0 in
-    let ev = c.ev-size in
-    let none = sym if3.false ∙ room_by (ev_bytes t pages) out offset _ _
-    (ev-length.ensures ∙
-    (ev_length_is _ if2.false ∙ sym (length_ev_bytes t pages)))
-    room.ensures in
-    put_writes (ev_bytes t pages) out offset none ev.result ev.new.rest
-    (pages_refused (length pages))
-    (pages_fine _ if1.false
-    if2.false) ev.ensures.0 ev.ensures.1
-    (ev_refusal t pages out offset)
-    (rw
-    (pages_fine (length pages) if1.false
-    if2.false) ((sym none)))

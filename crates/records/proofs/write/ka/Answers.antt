@@ -2,21 +2,28 @@
 use native.Mathlib.Omega.{arith}
 use mathlib.Core.Bool.{false}
 use mathlib.Core.Path.{◌∙◌, sym, refl}
-use Rattle.paging.proofs.Refusals.{sizes_pass, sizes_fall, sizes_right}
+use Rattle.paging.proofs.Refusals.{sizes_pass, sizes_right}
 use Rattle.records.specs.Bytes.{ka_bytes}
 use Rattle.records.specs.Writing.{ka_refusal}
 use Rattle.records.proofs.Writing.{refuses, room_by, room_fits, put_fits, put_writes}
 use Rattle.records.proofs.write.ka.Goals as goal
 
-pub returns-then-own-ne0 : goal.returns-then-own-ne0
+pub returns : goal.returns
 unfolding ka_refusal
-returns-then-own-ne0 c =
+returns c =
     let a = c.args.a in
     let offset = c.args.at in
     let k = c.args.k in
     let out = c.args.out.now in
-    refuses (ka_bytes k a) out offset _ (ka_refusal k a out offset) c.if-own-ne0.true
-    (sizes_fall k a _ _ c.refusal-own.ensures c.if-own-ne0.true)
+    let refusal = c.refusal-own in
+    let room = c.room-no in
+    let if2 = c.if-no-ne0 in
+    let ka = c.ka-size in
+    let none = sym if2.false ∙ room_by (ka_bytes k a) out offset _ _ refl
+    room.ensures in
+    put_writes (ka_bytes k a) out offset none ka.result ka.new.rest false refl
+    ka.ensures.0 ka.ensures.1 (ka_refusal k a out offset)
+    (sizes_pass k a _ (sym refusal.ensures ∙ omega arith) ∙ (sym none))
 
 pub returns-then-no-ne0 : goal.returns-then-no-ne0
 unfolding ka_refusal
@@ -26,9 +33,8 @@ returns-then-no-ne0 c =
     let k = c.args.k in
     let out = c.args.out.now in
     let refusal = c.refusal-own in
-    let if1 = c.if-own-ne0 in
     refuses (ka_bytes k a) out offset _ (ka_refusal k a out offset) c.if-no-ne0.true
-    (sizes_pass k a _ (sym refusal.ensures ∙ if1.false) ∙
+    (sizes_pass k a _ (sym refusal.ensures ∙ omega arith) ∙
     (sym (room_by (ka_bytes k a) out offset _ _ refl c.room-no.ensures)))
 
 pub slice_bounds-ka-count : goal.slice_bounds-ka-count
@@ -60,8 +66,7 @@ overflow_cast-k c =
     let a = c.args.a in
     let k = c.args.k in
     let refusal = c.refusal-own in
-    let if1 = c.if-own-ne0 in
-    let right = sizes_right k a (sym refusal.ensures ∙ if1.false) in
+    let right = sizes_right k a (sym refusal.ensures ∙ omega arith) in
     let high = right.a_high in
     let most = right.k_high in
     omega arith
@@ -71,8 +76,7 @@ overflow_cast-a c =
     let a = c.args.a in
     let k = c.args.k in
     let refusal = c.refusal-own in
-    let if1 = c.if-own-ne0 in
-    let right = sizes_right k a (sym refusal.ensures ∙ if1.false) in
+    let right = sizes_right k a (sym refusal.ensures ∙ omega arith) in
     let high = right.a_high in
     let most = right.k_high in
     omega arith
@@ -93,21 +97,3 @@ overflow_add-result c =
       put_fits (ka_bytes k a) out offset none ka.result ka.new.rest false refl
           ka.ensures.0 ka.ensures.1,
     )
-
-pub returns : goal.returns
-unfolding ka_refusal
-returns c =
-    let a = c.args.a in
-    let offset = c.args.at in
-    let k = c.args.k in
-    let out = c.args.out.now in
-    let refusal = c.refusal-own in
-    let if1 = c.if-own-ne0 in
-    let room = c.room-no in
-    let if2 = c.if-no-ne0 in
-    let ka = c.ka-size in
-    let none = sym if2.false ∙ room_by (ka_bytes k a) out offset _ _ refl
-    room.ensures in
-    put_writes (ka_bytes k a) out offset none ka.result ka.new.rest false refl
-    ka.ensures.0 ka.ensures.1 (ka_refusal k a out offset)
-    (sizes_pass k a _ (sym refusal.ensures ∙ if1.false) ∙ (sym none))

@@ -7,6 +7,21 @@ use Rattle.records.specs.Writing.{pf_refusal}
 use Rattle.records.proofs.Writing.{refuses, room_by, room_fits, put_fits, put_writes}
 use Rattle.records.proofs.write.pf.Goals as goal
 
+pub returns : goal.returns
+unfolding pf_refusal
+returns c =
+    let offset = c.args.at in
+    let out = c.args.out.now in
+    let page = c.args.page in
+    let t = c.args.t in
+    let room = c.room-no in
+    let if1 = c.if-no-ne0 in
+    let pf = c.pf-size in
+    let none = sym if1.false ∙ room_by (pf_bytes t page) out offset _ _ refl
+    room.ensures in
+    put_writes (pf_bytes t page) out offset none pf.result pf.new.rest false refl
+    pf.ensures.0 pf.ensures.1 (pf_refusal t page out offset) ((sym none))
+
 pub returns-then-no-ne0 : goal.returns-then-no-ne0
 unfolding pf_refusal
 returns-then-no-ne0 c =
@@ -57,18 +72,3 @@ overflow_add-result c =
       put_fits (pf_bytes t page) out offset none pf.result pf.new.rest false refl
           pf.ensures.0 pf.ensures.1,
     )
-
-pub returns : goal.returns
-unfolding pf_refusal
-returns c =
-    let offset = c.args.at in
-    let out = c.args.out.now in
-    let page = c.args.page in
-    let t = c.args.t in
-    let room = c.room-no in
-    let if1 = c.if-no-ne0 in
-    let pf = c.pf-size in
-    let none = sym if1.false ∙ room_by (pf_bytes t page) out offset _ _ refl
-    room.ensures in
-    put_writes (pf_bytes t page) out offset none pf.result pf.new.rest false refl
-    pf.ensures.0 pf.ensures.1 (pf_refusal t page out offset) ((sym none))

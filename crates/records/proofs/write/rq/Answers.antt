@@ -7,6 +7,20 @@ use Rattle.records.specs.Writing.{rq_refusal}
 use Rattle.records.proofs.Writing.{refuses, room_by, room_fits, put_fits, put_writes}
 use Rattle.records.proofs.write.rq.Goals as goal
 
+pub returns : goal.returns
+unfolding rq_refusal
+returns c =
+    let offset = c.args.at in
+    let out = c.args.out.now in
+    let page = c.args.page in
+    let room = c.room-no in
+    let if1 = c.if-no-ne0 in
+    let rq = c.rq-size in
+    let none = sym if1.false ∙ room_by (rq_bytes page) out offset _ _ refl
+    room.ensures in
+    put_writes (rq_bytes page) out offset none rq.result rq.new.rest false refl
+    rq.ensures.0 rq.ensures.1 (rq_refusal page out offset) ((sym none))
+
 pub returns-then-no-ne0 : goal.returns-then-no-ne0
 unfolding rq_refusal
 returns-then-no-ne0 c =
@@ -53,17 +67,3 @@ overflow_add-result c =
       put_fits (rq_bytes page) out offset none rq.result rq.new.rest false refl
           rq.ensures.0 rq.ensures.1,
     )
-
-pub returns : goal.returns
-unfolding rq_refusal
-returns c =
-    let offset = c.args.at in
-    let out = c.args.out.now in
-    let page = c.args.page in
-    let room = c.room-no in
-    let if1 = c.if-no-ne0 in
-    let rq = c.rq-size in
-    let none = sym if1.false ∙ room_by (rq_bytes page) out offset _ _ refl
-    room.ensures in
-    put_writes (rq_bytes page) out offset none rq.result rq.new.rest false refl
-    rq.ensures.0 rq.ensures.1 (rq_refusal page out offset) ((sym none))
