@@ -6,7 +6,7 @@ use mathlib.Core.List.{List, []}
 use mathlib.Core.Path.{◌≡◌, refl, sym, ap, ◌∙◌}
 use lib.Dec.{eqb}
 use lib.ListN.{length, replicate, length-replicate, length-append}
-use borrow.Author.Tests.{lt-ltb, le-ltb, ne_eqb}
+use borrow.Author.Tests.{le-ltb, ne_eqb}
 use Rattle.lists.specs.Choice.{pick}
 use Rattle.reading.specs.Answers.{trace_answer}
 use Rattle.reading.specs.Files.{File, requests_from, before}
@@ -19,6 +19,7 @@ use Rattle.reading.proofs.Walk.{requests_refused, requests_ended, requests_reque
 use Rattle.traces.specs.Traces.{requests_refusal}
 use Rattle.traces.specs.declared.Counted.{Counted}
 use Rattle.traces.specs.inner.Counting.{counted_in}
+use Rattle.traces.proofs.Whole.{past_the_limit}
 
 pub record Counting (file : List ℕ) (most at n : ℕ) : Type 0 where
   pub started : 0 < at
@@ -48,7 +49,7 @@ module _ (file : List ℕ) (most at n : ℕ) (c : Counting file most at n) (r : 
         let s = c.size in
         let l = run_size_lem in
         let f = c.few in
-        rw (lt-ltb most (length (requests_from file 6).held) (omega arith))
+        rw (past_the_limit most (requests_from file 6) (omega arith))
 
     pub counting_next : times ≤ most - n → Counting file most next (n + times)
     counting_next h =

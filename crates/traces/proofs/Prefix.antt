@@ -6,13 +6,13 @@ use mathlib.Core.List.{List, ◌++◌}
 use mathlib.Core.Logic.{◌⊎◌, inl, inr}
 use mathlib.Core.Path.{◌≡◌, refl, sym, ap, ◌∙◌}
 use lib.ListN.{length, replicate, length-append, length-replicate}
-use borrow.Author.Tests.{lt-ltb}
 use Rattle.reading.specs.Files.{File, before, requests_from}
 use Rattle.reading.specs.Reading.{Answer, refused, ended, sizes, request, bundle, fetch, read_trace}
 use Rattle.reading.proofs.Facts.{trace_says}
 use Rattle.reading.proofs.Walk.{requests_refused, requests_request}
 use Rattle.traces.specs.Traces.{with_requests, from_start, trace_file}
 use Rattle.traces.proofs.More.{first_same, record_same}
+use Rattle.traces.proofs.Whole.{past_the_limit}
 
 module _ (s u : List ℕ) where
   -- from an offset on, with the bytes u behind and without: both hold so many requests, or they hold the same
@@ -55,7 +55,7 @@ module _ (s u : List ℕ) where
   with_requests_lem limit k a f g (inl h) =
       let p = h.0 in
       let q = h.1 in
-      rw (lt-ltb limit (length f.held) (omega arith), lt-ltb limit (length g.held) (omega arith)) refl
+      rw (past_the_limit limit f (omega arith), past_the_limit limit g (omega arith)) refl
   with_requests_lem limit k a f g (inr e) = ap (with_requests limit k a) e
 
   module _ (limit : ℕ) (h : 6 + 8 * suc limit ≤ length s) where

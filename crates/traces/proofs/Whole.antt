@@ -1,6 +1,6 @@
 -- A trace file read whole is refused with a number, or it is a KA with right sizes and requests without damage, not more than the limit. Whatever holds of
 -- both holds of every file.
-use Prim.Native.Nat.{ℕ, ◌≤◌}
+use Prim.Native.Nat.{ℕ, ◌≤◌, ◌<◌}
 use native.Mathlib.Omega.{arith}
 use mathlib.Core.Bool.{Bool}
 use mathlib.Core.List.{List}
@@ -8,13 +8,13 @@ use mathlib.Core.Logic.{inl}
 use mathlib.Core.Path.{◌≡◌, refl, sym, ap, subst, ◌∙◌}
 use lib.Dec.{eqb, ltb}
 use lib.ListN.{length}
-use borrow.Author.Tests.{eqb-true, eqb-false, le-ltb}
+use borrow.Author.Tests.{eqb-true, eqb-false, lt-ltb, le-ltb}
 use Rattle.lists.specs.Choice.{pick}
 use Rattle.lists.proofs.Choice.{by_test, tests}
 use Rattle.paging.specs.Refusals.{refuse, SizesRight}
 use Rattle.paging.proofs.Refusals.{sizes_right, zero_pass}
 use Rattle.records.specs.Bytes.{TraceFileOf}
-use Rattle.reading.specs.Files.{requests_from}
+use Rattle.reading.specs.Files.{File, requests_from}
 use Rattle.reading.specs.Reading.{Answer, refused, ended, sizes, request, bundle, fetch, read_trace}
 use Rattle.reading.proofs.Facts.{TraceFacts, trace_facts, KaAt}
 use Rattle.reading.proofs.Numbers.{Among, TraceNumber, trace_low, requests_low}
@@ -28,6 +28,10 @@ pub record WholeTrace (limit : ℕ) (s : List ℕ) (k a : ℕ) (pages : List ℕ
   pub starts : read_trace s 0 ≡ sizes k a 6
   pub read : requests_from s 6 ≡ record { held = pages; damage = 0 }
   pub few : length pages ≤ limit
+
+-- the record that passes the limit is 3, whatever follows it
+pub past_the_limit : (limit : ℕ) (file : File ℕ) → limit < length file.held → requests_refusal limit file ≡ 3
+past_the_limit limit file h = rw (lt-ltb limit (length file.held) h) refl
 
 refused_number : (b : Bool) (n : ℕ) → TraceNumber n → TraceNumber (refuse b 3 n)
 refused_number b n h = by_test (λ t. TraceNumber (pick t 3 n)) b (λ e. inl (omega arith)) (λ e. h)
