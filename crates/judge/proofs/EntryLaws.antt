@@ -17,7 +17,7 @@ use Rattle.paging.specs.Schedule.{Entry, ev, pf, time_of, held_in_turn}
 use Rattle.wire.specs.Numbers.{num32}
 use Rattle.cursor.specs.Cursor.{requests_left}
 use Rattle.cursor.specs.declared.Rest.{Rest}
-use Rattle.judging.specs.Judging.{Standing, Step, on, stop, closing, opened, acted, arrived, stepped}
+use Rattle.judging.specs.Judging.{Standing, on, stop, closing, opened, acted, arrived, stepped}
 use Rattle.judging.proofs.Exact.{closing_length}
 use Rattle.judge.specs.declared.closing.Closing as closings
 use Rattle.judge.specs.declared.closing.Closing.TheVariants.{Open, Overfull}

@@ -3,7 +3,6 @@ use mathlib.Core.Path.{◌∙◌, ap}
 use lib.ListN.{length}
 use mir.Facts.{to_z-of_z}
 use mir.Syntax.{w64}
-use borrow.Author.Rules.{rules}
 use Rattle.judging.specs.Answer.{answer_number}
 use Rattle.judge.proofs.SignedLaws.{within_range}
 use Rattle.judge.proofs.judge.Goals as goal

@@ -1,6 +1,5 @@
 -- `traces::count` meets its contract: the KA is refused, the requests behind it are, or they are counted.
 use mathlib.Core.Path.{sym, ap, ◌∙◌}
-use borrow.Author.Rules.{rules}
 use Rattle.reading.specs.Answers.{start_answer}
 use Rattle.traces.specs.Calls.{count_of}
 use Rattle.traces.proofs.CallLaws.{starts_damaged, starts_barred, starts_whole}

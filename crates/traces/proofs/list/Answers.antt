@@ -1,7 +1,5 @@
-use Prim.Native.Nat.{◌-◌}
 use native.Mathlib.Omega.{arith}
-use borrow.Author.Rules.{rules}
-use Rattle.traces.proofs.ListLaws.{Listing, listing_first, listing_next, listed}
+use Rattle.traces.proofs.ListLaws.{listing_first, listing_next, listed}
 use Rattle.traces.proofs.list.Goals as goal
 
 pub loop-i-init : goal.loop-i-init

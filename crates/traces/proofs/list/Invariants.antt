@@ -1,8 +1,6 @@
 -- `traces::list` meets its contract: so many places are filled, the others are as they were.
 use Prim.Native.Nat.{◌-◌}
-use native.Mathlib.Omega.{arith}
-use borrow.Author.Rules.{rules}
-use Rattle.traces.proofs.ListLaws.{Listing, listing_first, listing_next, listed}
+use Rattle.traces.proofs.ListLaws.{Listing}
 use Rattle.traces.proofs.list.Given as goal
 
 abbrev pub invariant-loop-i : goal.invariant-loop-i

@@ -1,8 +1,5 @@
-use Prim.Native.Nat.{◌-◌}
 use native.Mathlib.Omega.{arith}
-use lib.ListN.{length}
-use borrow.Author.Rules.{rules}
-use Rattle.traces.proofs.CountLaws.{Counting, counting_first, request_fact, too_many, counting_next, counted_all, counted_damage, no_sizes}
+use Rattle.traces.proofs.CountLaws.{counting_first, request_fact, too_many, counting_next, counted_all, counted_damage, no_sizes}
 use Rattle.traces.proofs.requests.Goals as goal
 
 pub loop-times-init : goal.loop-times-init

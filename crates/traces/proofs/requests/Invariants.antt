@@ -1,9 +1,7 @@
 -- `traces::requests` meets its contract: so many requests are counted, and the others stand from the offset on.
 use Prim.Native.Nat.{◌-◌}
-use native.Mathlib.Omega.{arith}
 use lib.ListN.{length}
-use borrow.Author.Rules.{rules}
-use Rattle.traces.proofs.CountLaws.{Counting, counting_first, request_fact, too_many, counting_next, counted_all, counted_damage, no_sizes}
+use Rattle.traces.proofs.CountLaws.{Counting}
 use Rattle.traces.proofs.requests.Given as goal
 
 abbrev pub invariant-loop-times : goal.invariant-loop-times

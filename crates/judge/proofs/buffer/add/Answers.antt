@@ -1,6 +1,5 @@
 use native.Mathlib.Omega.{arith}
 use mathlib.Core.Path.{sym, ◌∙◌}
-use borrow.Author.Rules.{rules}
 use Rattle.judge.proofs.BufferLaws.{add_present, add_full, add_absent}
 use Rattle.judge.proofs.buffer.add.Goals as goal
 

@@ -1,11 +1,5 @@
-use Prim.Native.Nat.{◌+◌, ◌*◌, ◌≤◌}
 use native.Mathlib.Omega.{arith}
-use mathlib.Core.Path.{◌≡◌, refl, sym, ◌∙◌}
-use lib.ListN.{length, take, drop}
-use borrow.Author.Rules.{rules}
-use Rattle.lists.specs.Pages.{erase_all}
-use Rattle.paging.specs.Schedule.{held_in_turn}
-use Rattle.wire.specs.Numbers.{nums32}
+use mathlib.Core.Path.{refl, sym, ◌∙◌}
 use Rattle.judge.proofs.BufferLaws.{next_held, next_erased, next_missing, evicted, missing}
 use Rattle.judge.proofs.buffer.evict.Goals as goal
 

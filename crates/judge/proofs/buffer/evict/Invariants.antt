@@ -1,12 +1,9 @@
 use Prim.Native.Nat.{◌+◌, ◌*◌, ◌≤◌}
-use native.Mathlib.Omega.{arith}
-use mathlib.Core.Path.{◌≡◌, refl, sym, ◌∙◌}
+use mathlib.Core.Path.{◌≡◌}
 use lib.ListN.{length, take, drop}
-use borrow.Author.Rules.{rules}
 use Rattle.lists.specs.Pages.{erase_all}
 use Rattle.paging.specs.Schedule.{held_in_turn}
 use Rattle.wire.specs.Numbers.{nums32}
-use Rattle.judge.proofs.BufferLaws.{next_held, next_erased, next_missing, evicted, missing}
 use Rattle.judge.proofs.buffer.evict.Given as goal
 
 abbrev pub invariant-loop-left : goal.invariant-loop-left

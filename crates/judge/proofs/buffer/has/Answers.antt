@@ -1,7 +1,6 @@
 use native.Mathlib.Omega.{arith}
 use mathlib.Core.Path.{sym}
 use lib.Seq.{length-take-le}
-use borrow.Author.Rules.{rules}
 use Rattle.judge.proofs.buffer.has.Goals as goal
 
 pub slice_bounds-has-end : goal.slice_bounds-has-end

@@ -1,7 +1,6 @@
 use native.Mathlib.Omega.{arith}
 use mathlib.Core.Path.{sym, refl}
 use lib.Seq.{length-take-le}
-use borrow.Author.Rules.{rules}
 use Rattle.judge.proofs.BufferLaws.{not_there, taken_out}
 use Rattle.judge.proofs.buffer.take_out.Goals as goal
 

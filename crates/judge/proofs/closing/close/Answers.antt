@@ -1,7 +1,7 @@
 use native.Mathlib.Omega.{arith}
 use mathlib.Core.Path.{refl, ◌∙◌}
 use borrow.Author.Rules.{rules}
-use Rattle.judge.proofs.ClosingLaws.{Closes, closes_done, closes_over, closes_next}
+use Rattle.judge.proofs.ClosingLaws.{closes_done, closes_over, closes_next}
 use Rattle.judge.proofs.closing.close.Goals as goal
 
 pub loop-left-init : goal.loop-left-init

@@ -1,7 +1,4 @@
-use native.Mathlib.Omega.{arith}
-use mathlib.Core.Path.{refl, ◌∙◌}
-use borrow.Author.Rules.{rules}
-use Rattle.judge.proofs.ClosingLaws.{Closes, closes_done, closes_over, closes_next}
+use Rattle.judge.proofs.ClosingLaws.{Closes}
 use Rattle.judge.proofs.closing.close.Given as goal
 
 abbrev pub invariant-loop-left : goal.invariant-loop-left

@@ -1,6 +1,5 @@
 use native.Mathlib.Omega.{arith}
 use mathlib.Core.Path.{ap, ◌∙◌}
-use borrow.Author.Rules.{rules}
 use Rattle.cursor.specs.Cursor.{requests_left}
 use Rattle.judging.specs.Judging.{closing}
 use Rattle.judge.proofs.ClosingLaws.{open_over}

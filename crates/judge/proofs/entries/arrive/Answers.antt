@@ -1,6 +1,5 @@
 use native.Mathlib.Omega.{arith}
 use mathlib.Core.Path.{refl}
-use borrow.Author.Rules.{rules}
 use Rattle.judge.specs.inner.Places.{standing}
 use Rattle.judge.proofs.EntryLaws.{falls, late, there, seven, opens, opens_sound}
 use Rattle.judge.proofs.entries.arrive.Goals as goal

@@ -1,7 +1,6 @@
 use native.Mathlib.Omega.{arith}
 use mathlib.Core.Path.{sym, ◌∙◌}
 use lib.ListN.{drop}
-use borrow.Author.Rules.{rules}
 use Rattle.paging.specs.Schedule.{ev}
 use Rattle.wire.specs.Numbers.{nums32}
 use Rattle.judge.specs.inner.Places.{standing}

@@ -1,6 +1,5 @@
 use native.Mathlib.Omega.{arith}
 use mathlib.Core.Path.{sym, ◌∙◌}
-use borrow.Author.Rules.{rules}
 use Rattle.paging.specs.Schedule.{pf}
 use Rattle.judge.specs.inner.Places.{standing}
 use Rattle.judge.proofs.EntryLaws.{acts, halts, lands, pf_held, pf_fetched, pf_done, pf_sound}

@@ -1,9 +1,5 @@
-use Prim.Native.Nat.{◌+◌, ◌*◌}
 use native.Mathlib.Omega.{arith}
-use mathlib.Core.Path.{◌≡◌, refl, sym, ◌∙◌}
-use borrow.Author.Rules.{rules}
-use Rattle.lists.specs.Pages.{mem}
-use Rattle.judge.specs.inner.Fetches.{fetched_pages}
+use mathlib.Core.Path.{refl, sym, ◌∙◌}
 use Rattle.judge.proofs.FetchLaws.{fetched_here, fetched_next, fetched_none}
 use Rattle.judge.proofs.fetches.fetched.Goals as goal
 

@@ -1,10 +1,7 @@
 use Prim.Native.Nat.{◌+◌, ◌*◌}
-use native.Mathlib.Omega.{arith}
-use mathlib.Core.Path.{◌≡◌, refl, sym, ◌∙◌}
-use borrow.Author.Rules.{rules}
+use mathlib.Core.Path.{◌≡◌}
 use Rattle.lists.specs.Pages.{mem}
 use Rattle.judge.specs.inner.Fetches.{fetched_pages}
-use Rattle.judge.proofs.FetchLaws.{fetched_here, fetched_next, fetched_none}
 use Rattle.judge.proofs.fetches.fetched.Given as goal
 
 abbrev pub invariant-loop-left : goal.invariant-loop-left

@@ -1,10 +1,6 @@
-use Prim.Native.Nat.{◌+◌, ◌*◌}
 use native.Mathlib.Omega.{arith}
-use mathlib.Core.List.{◌++◌}
-use mathlib.Core.Path.{◌≡◌, refl, ◌∙◌}
-use lib.ListN.{length, take, length-set}
-use borrow.Author.Rules.{rules}
-use Rattle.judge.specs.inner.Fetches.{fetched_pages}
+use mathlib.Core.Path.{refl, ◌∙◌}
+use lib.ListN.{length-set}
 use Rattle.judge.proofs.FetchLaws.{settled_next, settled_all}
 use Rattle.judge.proofs.fetches.settle.Goals as goal
 

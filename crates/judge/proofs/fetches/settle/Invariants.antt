@@ -1,11 +1,8 @@
 use Prim.Native.Nat.{◌+◌, ◌*◌}
-use native.Mathlib.Omega.{arith}
 use mathlib.Core.List.{◌++◌}
-use mathlib.Core.Path.{◌≡◌, refl, ◌∙◌}
-use lib.ListN.{length, take, length-set}
-use borrow.Author.Rules.{rules}
+use mathlib.Core.Path.{◌≡◌}
+use lib.ListN.{length, take}
 use Rattle.judge.specs.inner.Fetches.{fetched_pages}
-use Rattle.judge.proofs.FetchLaws.{settled_next, settled_all}
 use Rattle.judge.proofs.fetches.settle.Given as goal
 
 abbrev pub invariant-loop-left : goal.invariant-loop-left

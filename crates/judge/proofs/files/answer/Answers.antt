@@ -1,4 +1,3 @@
-use borrow.Author.Rules.{rules}
 use Rattle.judge.proofs.FileLaws.{barred_trace, whole_trace, trace_judged}
 use Rattle.judge.proofs.files.answer.Goals as goal
 

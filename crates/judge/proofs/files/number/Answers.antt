@@ -1,5 +1,4 @@
 use native.Mathlib.Omega.{arith}
-use borrow.Author.Rules.{rules}
 use Rattle.judge.proofs.SignedLaws.{cost_fits, cost_sent, refusal_fits, refusal_sent}
 use Rattle.judge.proofs.files.number.Goals as goal
 

@@ -1,6 +1,5 @@
 use native.Mathlib.Omega.{arith}
 use mathlib.Core.List.{[]}
-use borrow.Author.Rules.{rules}
 use Rattle.judge.proofs.FileLaws.{other_k, other_a, first_sound, first_answer, schedule_refused, schedule_end, schedule_bundle, schedule_fetch}
 use Rattle.judge.proofs.files.schedule_answer.Goals as goal
 

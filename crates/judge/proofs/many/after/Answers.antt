@@ -1,4 +1,3 @@
-use borrow.Author.Rules.{rules}
 use Rattle.judge.proofs.ManyLaws.{on_ready, on_reads, stop_reads, nothing_read}
 use Rattle.judge.proofs.many.after.Goals as goal
 

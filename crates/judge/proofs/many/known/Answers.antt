@@ -1,6 +1,5 @@
 use mathlib.Core.Path.{sym, ◌∙◌}
 use lib.ListN.{take}
-use borrow.Author.Rules.{rules}
 use Rattle.judge.specs.inner.Fetches.{fetched_pages}
 use Rattle.judge.proofs.ManyLaws.{known_held, known_fetched, known_not}
 use Rattle.judge.proofs.many.known.Goals as goal

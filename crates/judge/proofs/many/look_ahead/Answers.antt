@@ -1,4 +1,3 @@
-use borrow.Author.Rules.{rules}
 use Rattle.judge.proofs.ManyLaws.{ahead_is}
 use Rattle.judge.proofs.many.look_ahead.Goals as goal
 

@@ -1,11 +1,6 @@
-use Prim.Native.Nat.{◌-◌, ◌≤◌}
 use native.Mathlib.Omega.{arith}
-use mathlib.Core.Path.{◌≡◌, sym, ◌∙◌}
-use lib.ListN.{length}
-use borrow.Author.Rules.{rules}
-use Rattle.repeats.specs.Bits.{words, AllMarked}
+use mathlib.Core.Path.{sym, ◌∙◌}
 use Rattle.repeats.proofs.BitLaws.{all_none}
-use Rattle.judge.specs.inner.Fetches.{fetched_pages}
 use Rattle.judge.proofs.ManyLaws.{mark_next, mark_last}
 use Rattle.judge.proofs.many.mark_all.Goals as goal
 

@@ -1,9 +1,6 @@
 use Prim.Native.Nat.{◌+◌, ◌*◌, ◌-◌}
-use native.Mathlib.Omega.{arith}
-use mathlib.Core.Path.{sym, ◌∙◌}
 use lib.ListN.{length}
-use borrow.Author.Rules.{rules}
-use Rattle.judge.proofs.ManyLaws.{Reads, reads_none, reads_end, reads_inside, reads_stop, reads_next, ahead_page}
+use Rattle.judge.proofs.ManyLaws.{Reads}
 use Rattle.judge.proofs.many.read_on.Given as goal
 
 abbrev pub invariant-loop-page : goal.invariant-loop-page

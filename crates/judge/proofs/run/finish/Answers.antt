@@ -1,5 +1,4 @@
 use native.Mathlib.Omega.{arith}
-use borrow.Author.Rules.{rules}
 use Rattle.judge.proofs.RunLaws.{few, none_left, left_over, left_closed}
 use Rattle.judge.proofs.run.finish.Goals as goal
 

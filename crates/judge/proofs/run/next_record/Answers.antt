@@ -1,5 +1,4 @@
 use native.Mathlib.Omega.{arith}
-use borrow.Author.Rules.{rules}
 use Rattle.judge.proofs.ManyLaws.{sound_ready}
 use Rattle.judge.proofs.RunLaws.{ev_fact, ev_turn, pf_fact, pfs_turn, end_turn, refused_turn, sizes_turn}
 use Rattle.judge.proofs.run.next_record.Goals as goal

@@ -1,10 +1,5 @@
-use Prim.Native.Nat.{◌+◌, ◌*◌, ◌-◌}
 use native.Mathlib.Omega.{arith}
-use mathlib.Core.Path.{◌≡◌, refl, ◌∙◌}
-use lib.ListN.{length}
-use borrow.Author.Rules.{rules}
-use Rattle.judge.specs.inner.Places.{Sound}
-use Rattle.judge.specs.inner.Verdicts.{place_answer}
+use mathlib.Core.Path.{refl, ◌∙◌}
 use Rattle.judge.proofs.RunLaws.{run_again, run_done}
 use Rattle.judge.proofs.run.run.Goals as goal
 

@@ -1,11 +1,8 @@
 use Prim.Native.Nat.{◌+◌, ◌*◌, ◌-◌}
-use native.Mathlib.Omega.{arith}
-use mathlib.Core.Path.{◌≡◌, refl, ◌∙◌}
+use mathlib.Core.Path.{◌≡◌}
 use lib.ListN.{length}
-use borrow.Author.Rules.{rules}
 use Rattle.judge.specs.inner.Places.{Sound}
 use Rattle.judge.specs.inner.Verdicts.{place_answer}
-use Rattle.judge.proofs.RunLaws.{run_again, run_done}
 use Rattle.judge.proofs.run.run.Given as goal
 
 abbrev pub invariant-loop-next : goal.invariant-loop-next

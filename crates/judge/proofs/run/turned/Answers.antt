@@ -1,5 +1,4 @@
 use mathlib.Core.Path.{sym, ap}
-use borrow.Author.Rules.{rules}
 use Rattle.judge.specs.inner.Verdicts.{turn_of}
 use Rattle.judge.proofs.run.turned.Goals as goal
 

@@ -1,6 +1,6 @@
 -- `records::write::ev` meets its contract: 6, then 9 or 8, else the record is put and its length fits.
 use native.Mathlib.Omega.{arith}
-use mathlib.Core.Path.{◌∙◌, sym, refl}
+use mathlib.Core.Path.{◌∙◌, sym}
 use lib.ListN.{length}
 use Rattle.records.specs.Bytes.{ev_bytes}
 use Rattle.records.specs.Writing.{ev_refusal, pages_refused}
