@@ -159,29 +159,20 @@ module _ (file : List ℕ) (n : ℕ) (out₀ out : List ℕ) (from at i : ℕ) (
 
 -- ---- a run's record
 
-module _ (page times : ℕ) (out : List ℕ) (at : ℕ) (fits : at + length (trace_entry_bytes (run_record page times)) ≤ length out) where
-  abbrev Put : (next : ℕ) → (out' : List ℕ) → Type 0
-  Put next out' = (next ≡ at + length (trace_entry_bytes (run_record page times))) × (out' ≡ placed out at (trace_entry_bytes (run_record page times)))
+-- the record of a run, by how many requests it stands for
+pub single_record : (page times : ℕ) → times ≡ 1 → trace_entry_bytes (run_record page times) ≡ rq_bytes page
+single_record page times one = rw one
 
-  module _ (one : times ≡ 1) where
-    single_is : trace_entry_bytes (run_record page times) ≡ rq_bytes page
-    single_is = rw (eq-eqb times 1 one)
+pub run_of_more : (page times : ℕ) → (times ≡ 1 → ⊥) → trace_entry_bytes (run_record page times) ≡ rr_bytes page times
+run_of_more page times more = rw (ne_eqb times 1 more)
 
-    pub single_fits : at + 6 ≤ length out
-    single_fits = let l = ap length single_is in omega arith
+pub single_record_length : (page times : ℕ) → times ≡ 1 → length (trace_entry_bytes (run_record page times)) ≡ 6
+single_record_length page times one = ap length (single_record page times one)
 
-    pub single_put : (out' : List ℕ) → out' ≡ placed out at (rq_bytes page) → Put (at + 6) out'
-    single_put out' p = rw single_is (refl, p)
+pub run_of_more_length : (page times : ℕ) → (times ≡ 1 → ⊥) → length (trace_entry_bytes (run_record page times)) ≡ 8
+run_of_more_length page times more = ap length (run_of_more page times more)
 
-  module _ (more : times ≡ 1 → ⊥) where
-    run_is : trace_entry_bytes (run_record page times) ≡ rr_bytes page times
-    run_is = rw (ne_eqb times 1 more)
-
-    pub run_fits : at + 8 ≤ length out
-    run_fits = let l = ap length run_is in omega arith
-
-    pub run_put : (out' : List ℕ) → out' ≡ placed out at (rr_bytes page times) → Put (at + 8) out'
-    run_put out' p = rw run_is (refl, p)
+pub ruleset run_rules = (single_record, run_of_more, single_record_length, run_of_more_length)
 
 -- ---- a record for each run
 

@@ -18,6 +18,7 @@ use reading::Start;
 use records::length;
 
 // A run's record from an offset on; answers the offset behind it.
+#[tactic(auto, using(crate::proofs::Written::run_rules))]
 fn put_run(page: u32, times: u32, out: &mut [u8], at: usize) -> usize
     requires { (times ≤ longest_rr) × (at + length (trace_entry_bytes (run_record page times)) ≤ length out.old) }
     ensures { (result ≡ at + length (trace_entry_bytes (run_record page times)))
