@@ -100,10 +100,22 @@ bundle_some : (kind a t n : ℕ) (keys : List ℕ) → (kind ≡ 0 → ⊥) → 
     → joined entry_bytes (bundle_of (kind_from kind) a t (take n keys) []) ≡ ev_bytes t (map page_of (take a keys))
 bundle_some kind a t n keys e f h = rw (ne_eqb kind 0 e, ne_eqb kind 1 f, take-take a n keys h) (append-nil (ev_bytes t (map page_of (take a keys))))
 
-pub puts_none : (kind n a t at : ℕ) (keys out : List ℕ) → (kind ≡ 0) ⊎ (kind ≡ 1)
+puts_none : (kind n a t at : ℕ) (keys out : List ℕ) → (kind ≡ 0) ⊎ (kind ≡ 1)
     → (at ≡ at + length (joined entry_bytes (bundle_of (kind_from kind) a t (take n keys) [])))
     × (out ≡ placed out at (joined entry_bytes (bundle_of (kind_from kind) a t (take n keys) [])))
 puts_none kind n a t at keys out e = rw (bundle_none kind a t (take n keys) e) (omega arith, placed_none out at)
+
+pub puts_hit : (kind n a t at : ℕ) (keys out : List ℕ) → kind ≡ 0
+    → (at ≡ at + length (joined entry_bytes (bundle_of (kind_from kind) a t (take n keys) [])))
+    × (out ≡ placed out at (joined entry_bytes (bundle_of (kind_from kind) a t (take n keys) [])))
+puts_hit kind n a t at keys out e = puts_none kind n a t at keys out (inl e)
+
+pub puts_load : (kind n a t at : ℕ) (keys out : List ℕ) → kind ≡ 1
+    → (at ≡ at + length (joined entry_bytes (bundle_of (kind_from kind) a t (take n keys) [])))
+    × (out ≡ placed out at (joined entry_bytes (bundle_of (kind_from kind) a t (take n keys) [])))
+puts_load kind n a t at keys out e = puts_none kind n a t at keys out (inr e)
+
+pub ruleset puts_rules = (puts_hit, puts_load)
 
 module _ (kind n a t at : ℕ) (keys out : List ℕ) (r : BundleRoom kind n a t at keys out) (e : kind ≡ 0 → ⊥) (f : kind ≡ 1 → ⊥) where
   some_length : length (ev_bytes t (map page_of (take a keys))) ≡ ev_length a

@@ -33,6 +33,7 @@ fn put_bundle(held: &[u64], a: usize, t: u32, rest: &mut [u8]) -> usize
 }
 
 // The bundle's EV from an offset on, where a request of this kind has one; answers the offset behind it.
+#[tactic(auto, using(crate::proofs::Written::puts_rules))]
 fn put_if_bundled(
     kind: u32,
     held: &[u64],
@@ -86,6 +87,7 @@ fn schedule_length(a: u32, bundles: u32) -> usize
 
 // The call for sizes and a trace that are not refused, with places lent for the lefts. Whether the bytes suffice is judged before the
 // first of them is written.
+#[tactic(auto, using(crate::proofs::ReadBack::schedule_long, crate::proofs::Refused::bytes_few))]
 pub(crate) fn scheduled(
     k: u32,
     a: u32,

@@ -1,7 +1,7 @@
 use native.Mathlib.Omega.{arith}
 use borrow.Author.Rules.{rules}
 use Rattle.keys.proofs.Sorting.{at_below}
-use Rattle.min.proofs.Refused.{scheduled_few, scheduled_whole}
+use Rattle.min.proofs.Refused.{scheduled_whole}
 use Rattle.min.proofs.Written.{best_few, schedule_length_is, evs_fit, schedule_placed}
 use Rattle.min.proofs.write.scheduled.Goals as goal
 
@@ -19,19 +19,6 @@ schedule_length-size-requires c =
     let counted = c.counted-all in
     let pages = at_below {n = 4294967296} trace (λ i h. omega (arith, c.type_inv.trace i)) in
     (omega (arith, pre.sizes.a_high, pre.sizes.k_high), omega (arith, counted.ensures.best, best_few k a pages, pre.short))
-
-pub returns-then-out-size : goal.returns-then-out-size
-returns-then-out-size c =
-    let a = c.args.a in
-    let k = c.args.k in
-    let out = c.args.out.now in
-    let trace = c.args.trace.now in
-    let pre = c.requires in
-    let counted = c.counted-all in
-    let schedule-length = c.schedule_length-size in
-    let pages = at_below {n = 4294967296} trace (λ i h. omega (arith, c.type_inv.trace i)) in
-    let size = schedule_length_is k a schedule-length.result counted.result.bundles trace pre.sizes.a_high schedule-length.ensures counted.ensures.best in
-    scheduled_few k a trace out (omega (arith, c.if-out-size.true))
 
 pub overflow_cast-k : goal.overflow_cast-k
 overflow_cast-k c =
@@ -52,11 +39,10 @@ put_bundles-requires c =
     let pre = c.requires in
     let counted = c.counted-all in
     let schedule-length = c.schedule_length-size in
-    let if1 = c.if-out-size in
     let ka = c.ka-from in
     let pages = at_below {n = 4294967296} trace (λ i h. omega (arith, c.type_inv.trace i)) in
     let size = schedule_length_is k a schedule-length.result counted.result.bundles trace pre.sizes.a_high schedule-length.ensures counted.ensures.best in
-    (counted.ensures.ready, evs_fit k a ka.result trace out ka.new.rest ka.new.rest pages (omega (arith, if1.false)) ka.ensures.0 ka.ensures.1)
+    (counted.ensures.ready, evs_fit k a ka.result trace out ka.new.rest ka.new.rest pages (omega arith) ka.ensures.0 ka.ensures.1)
 
 pub returns : goal.returns
 returns c =
@@ -67,12 +53,11 @@ returns c =
     let pre = c.requires in
     let counted = c.counted-all in
     let schedule-length = c.schedule_length-size in
-    let if1 = c.if-out-size in
     let ka = c.ka-from in
     let put-bundles = c.put_bundles in
     let pages = at_below {n = 4294967296} trace (λ i h. omega (arith, c.type_inv.trace i)) in
     let size = schedule_length_is k a schedule-length.result counted.result.bundles trace pre.sizes.a_high schedule-length.ensures counted.ensures.best in
     scheduled_whole k a counted.result.bundles counted.result.loads schedule-length.result trace out put-bundles.new.out
-    counted.ensures.best counted.ensures.loaded size if1.false
-    (schedule_placed k a ka.result trace out ka.new.rest put-bundles.new.out pages (omega (arith, if1.false)) ka.ensures.0 ka.ensures.1
+    counted.ensures.best counted.ensures.loaded size (omega arith)
+    (schedule_placed k a ka.result trace out ka.new.rest put-bundles.new.out pages (omega arith) ka.ensures.0 ka.ensures.1
     put-bundles.ensures)
