@@ -1,6 +1,6 @@
 use native.Mathlib.Omega.{arith}
 use mathlib.Core.Path.{sym, ◌∙◌, ap}
-use lib.Seq.{length-take-le}
+use lib.ListN.{length-take}
 use borrow.Author.Tests.{lt-leb}
 use Rattle.lists.specs.Pages.{distinct}
 use Rattle.paging.specs.Rows.{rows_of}
@@ -24,10 +24,9 @@ returns-else-in_order c =
 
 pub slice_bounds-no_page_twice-end : goal.slice_bounds-no_page_twice-end
 slice_bounds-no_page_twice-end c =
-    let numbers = c.args.numbers.now in
-    let pages = c.args.pages.now in
     let used = c.used-n in
-    sym (length-take-le used.result pages (omega (arith, used_most numbers used.result used.ensures)))
+    let most = used_most c.args.numbers.now used.result used.ensures in
+    simp length-take (omega arith)
 
 pub returns-else-no_page_twice : goal.returns-else-no_page_twice
 returns-else-no_page_twice c =
