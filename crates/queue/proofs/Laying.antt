@@ -8,7 +8,7 @@ use lib.ListN.{length, take, drop, set, replicate, length-append, length-drop, l
 use lib.Seq.{take_all, length-take-le, take_at, drop-drop, drop-append-add, drop-set-lt, take-suc-set}
 use Rattle.lists.specs.Places.{moved_to_end, first_dropped, pasted, laid}
 use Rattle.lists.proofs.Leaves.{length_moved, length_dropped}
-use Rattle.lists.proofs.Laid.{laid_made, length_laid}
+use Rattle.lists.proofs.Laid.{laid_made}
 use Rattle.queue.specs.inner.Cases.{loaded}
 
 -- a front of n pages replaced by n others leaves the places from k on
@@ -35,7 +35,7 @@ module _ (n k out page : ℕ) (cache : List ℕ) (h : n ≤ k) (l : k ≤ length
   load_length : (y : List ℕ) → y ≡ first_dropped out (take n cache) → length y ≡ n
   load_length y e = rw (e, length_dropped out (take n cache)) (length-take-le n cache (omega arith))
 
-  pub load_cache_length : (y : List ℕ) → y ≡ first_dropped out (take n cache) → length (y ++ drop n cache) ≡ length cache
+  load_cache_length : (y : List ℕ) → y ≡ first_dropped out (take n cache) → length (y ++ drop n cache) ≡ length cache
   load_cache_length y e = front n y cache (omega arith) (load_length y e)
 
   pub load_laid : (y z : List ℕ) → y ≡ first_dropped out (take n cache)
@@ -57,17 +57,6 @@ module _ (n k out page : ℕ) (cache : List ℕ) (h : n ≤ k) (l : k ≤ length
       (simp length-append (omega arith))
       (drop-set-lt k c (n - out) page b ∙ past n k y cache h (load_length y e))
       w
-
-  -- the cache list keeps its length
-  pub load_length_kept : (y z : List ℕ) → y ≡ first_dropped out (take n cache)
-      → z ≡ replicate (length (take (k - (n - out + 1)) (drop (n - out + 1) (set (y ++ drop n cache) (n - out) page)))) 0
-      → length (take (n - out + 1) (set (y ++ drop n cache) (n - out) page)
-      ++ (z ++ drop (k - (n - out + 1)) (drop (n - out + 1) (set (y ++ drop n cache) (n - out) page))))
-      ≡ length cache
-  load_length_kept y z e w =
-      ap length (load_laid y z e w)
-      ∙ length_laid k (loaded out page (take n cache)) cache
-      (simp (length-append, length-drop, length-take-le n cache (omega arith)) (omega arith)) l
 
 -- the bundle copied over the front of the evicted list
 pub bundle_copied : (a : ℕ) (cache evicted v : List ℕ) → a ≤ length cache → a ≤ length evicted → v ≡ pasted (take a cache) evicted

@@ -1,6 +1,5 @@
 use native.Mathlib.Omega.{arith}
 use mathlib.Core.Path.{◌∙◌}
-use borrow.Author.Rules.{rules}
 use Rattle.keys.proofs.Sorting.{at_below}
 use Rattle.min.proofs.Model.{best_same, loads_same}
 use Rattle.min.proofs.run.counted.Goals as goal

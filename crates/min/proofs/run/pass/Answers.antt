@@ -1,6 +1,5 @@
 use native.Mathlib.Omega.{arith}
 use mathlib.Core.Path.{refl, sym}
-use borrow.Author.Rules.{rules}
 use Rattle.lists.proofs.Choice.{bit_le}
 use Rattle.paging.specs.Policy.{is_bundled, is_load}
 use Rattle.keys.specs.Keys.{kind_from}

@@ -1,12 +1,7 @@
-use Prim.Native.Nat.{◌≤◌, ◌-◌}
 use native.Mathlib.Omega.{arith}
-use mathlib.Core.List.{map}
-use mathlib.Core.Path.{◌≡◌, refl}
-use lib.ListN.{length, length-set}
-use borrow.Author.Rules.{rules}
-use Rattle.lists.specs.Places.{over}
+use mathlib.Core.Path.{refl}
+use lib.ListN.{length-set}
 use Rattle.lists.proofs.Leaves.{over_none}
-use Rattle.keys.specs.Keys.{page_of}
 use Rattle.min.proofs.Written.{pages_turn, pages_done}
 use Rattle.min.proofs.write.copy_pages.Goals as goal
 

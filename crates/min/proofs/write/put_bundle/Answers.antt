@@ -2,7 +2,6 @@ use native.Mathlib.Omega.{arith}
 use mathlib.Core.Path.{sym}
 use lib.ListN.{take}
 use lib.Seq.{length-take-le}
-use borrow.Author.Rules.{rules}
 use Rattle.min.proofs.Written.{put_bundle_is}
 use Rattle.min.proofs.write.put_bundle.Goals as goal
 

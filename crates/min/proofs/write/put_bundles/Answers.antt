@@ -1,9 +1,5 @@
-use Prim.Native.Nat.{◌-◌}
 use native.Mathlib.Omega.{arith}
 use mathlib.Core.Path.{refl, sym}
-use lib.ListN.{length}
-use borrow.Author.Rules.{rules}
-use Rattle.min.specs.inner.Run.{Writing}
 use Rattle.min.proofs.Turn.{lefts_long, ready_to_serve}
 use Rattle.min.proofs.Written.{writing_starts, writing_turn, writing_ends, bundle_room}
 use Rattle.min.proofs.write.put_bundles.Goals as goal

@@ -1,5 +1,4 @@
 use native.Mathlib.Omega.{arith}
-use borrow.Author.Rules.{rules}
 use Rattle.min.proofs.Written.{puts_room, ev_room, puts_some}
 use Rattle.min.proofs.write.put_if_bundled.Goals as goal
 

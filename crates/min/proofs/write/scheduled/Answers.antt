@@ -1,5 +1,4 @@
 use native.Mathlib.Omega.{arith}
-use borrow.Author.Rules.{rules}
 use Rattle.keys.proofs.Sorting.{at_below}
 use Rattle.min.proofs.Refused.{scheduled_whole}
 use Rattle.min.proofs.Written.{best_few, schedule_length_is, evs_fit, schedule_placed}
