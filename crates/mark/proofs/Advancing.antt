@@ -12,15 +12,14 @@ use Rattle.lists.specs.Sorting.{Row}
 use Rattle.lists.proofs.Choice.{cases, eqb_self}
 use Rattle.paging.specs.Layers.{is_join, top_after}
 use Rattle.paging.specs.Rows.{rows_of, numbers_of, pages_of, table_of}
-use Rattle.paging.specs.Table.{number_in, rule_in, rows_after, revealed}
+use Rattle.paging.specs.Table.{number_in, rule_in, rows_after}
 use Rattle.paging.proofs.Rows.{pages_back, numbers_back}
 use Rattle.table.specs.Filling.{TableFilled}
 use Rattle.table.specs.Serving.{rule_of}
-use Rattle.table.specs.Serving as tableServing
 use Rattle.table.specs.declared.Stepped as table_stepped
 use Rattle.table.proofs.Serving.{used_rows_lem, used_rule}
 use Rattle.timed.specs.Timed.{TimedReady, TimedTo}
-use Rattle.marking.specs.Rdm.{is_revealed, time_next, t0_after, times_after, priority_next, beside}
+use Rattle.marking.specs.Rdm.{is_revealed, time_next, t0_after, times_after, priority_next}
 use Rattle.marking.proofs.Revealed.{revealed_most, revealed_place, revealed_next}
 use Rattle.mark.specs.Lent.{times_of}
 use Rattle.mark.specs.Traces.{Table, table_with}

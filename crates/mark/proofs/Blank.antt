@@ -10,9 +10,9 @@ use lib.ListN.{length, drop, get_or, replicate, length-replicate, drop_of_length
 use lib.Seq.{drop-cons}
 use borrow.Author.Tests.{eqb-true, eq-eqb, ne_eqb, not-false}
 use Rattle.lists.specs.Choice.{◌and◌, ◌or◌}
-use Rattle.lists.proofs.Choice.{and_i, and_l, and_r, and_false_l, and_false_r, or_l, or_r, or_none, or_none_l, or_none_r}
+use Rattle.lists.proofs.Choice.{and_i, and_l, and_r, or_l, or_r, or_none, or_none_l, or_none_r}
 use Rattle.paging.specs.Refusals.{refuse, trace_refusal, SizesRight, longest_trace}
-use Rattle.paging.proofs.Refusals.{zero_pass, Chain, chain_end, chain_refuse, chain_behind, chain_pass, chain_fall, trace_chain, trace_right, trace_fall, trace_pass, trace_taken}
+use Rattle.paging.proofs.Refusals.{zero_pass, Chain, chain_end, chain_refuse, chain_behind, chain_fall, trace_chain, trace_right, trace_fall, trace_pass, trace_taken}
 use Rattle.paging.specs.Table.{nothing_yet}
 use Rattle.layers.specs.Traces.{overflows}
 use Rattle.layers.proofs.Steps.{no_overflow}

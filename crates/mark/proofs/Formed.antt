@@ -1,16 +1,16 @@
 -- Well formed as plain facts, and what each test of the code tells of it.
-use Prim.Native.Nat.{ℕ, suc, ◌+◌, ◌-◌, ◌≤◌, ◌<◌}
+use Prim.Native.Nat.{ℕ, suc, ◌+◌, ◌≤◌, ◌<◌}
 use native.Mathlib.Numerals.{add-one}
 use native.Mathlib.Omega.{arith}
 use mathlib.Core.Bool.{Bool, true, false, not, ◌&&◌, ◌||◌}
-use mathlib.Core.List.{List, [], ◌∷◌}
+use mathlib.Core.List.{List, []}
 use mathlib.Core.Path.{◌≡◌, refl, sym, ap, ◌∙◌}
 use lib.Dec.{eqb, leb, ltb}
-use lib.ListN.{length, take, drop, get_or, replicate, drop_of_length-le}
+use lib.ListN.{length, take, drop, get_or, drop_of_length-le}
 use lib.Seq.{drop-cons}
-use borrow.Author.Tests.{eqb-true, eq-eqb, ne_eqb, leb-true, le-leb, ltb-true, ltb-false, le-ltb, lt-ltb, lt-leb, not-false}
+use borrow.Author.Tests.{eqb-true, eq-eqb, leb-true, le-leb, ltb-false, le-ltb, lt-leb, not-false}
 use Rattle.lists.specs.Choice.{◌and◌, ◌or◌}
-use Rattle.lists.proofs.Choice.{tests, cases, split, clash, and_i, and_l, and_r, and_false_l, and_false_r, or_l, or_r, or_none, or_none_l, or_none_r, or_split}
+use Rattle.lists.proofs.Choice.{tests, cases, clash, and_i, and_l, and_r, and_false_l, and_false_r, or_none, or_none_l, or_none_r}
 use Rattle.marking.specs.Lists.{rising, all_marks}
 use Rattle.mark.specs.Calls.{lists_refused}
 use Rattle.mark.specs.Formed.{record_formed, buffer_formed, times_formed}

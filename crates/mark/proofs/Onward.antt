@@ -1,31 +1,22 @@
 -- The state after a request that was served: it holds what the model says, and is ready for the next request.
-use Prim.Native.Nat.{ℕ, zero, suc, ◌+◌, ◌-◌, ◌≤◌, ◌<◌}
+use Prim.Native.Nat.{ℕ, zero, suc, ◌-◌, ◌≤◌, ◌<◌}
 use native.Mathlib.Omega.{arith}
-use mathlib.Core.Bool.{Bool, true, false, not}
 use mathlib.Core.List.{List, [], ◌∷◌, ◌++◌, map}
 use mathlib.Core.Path.{◌≡◌, refl, sym, ap, ◌∙◌}
-use lib.Dec.{eqb, leb, ltb}
-use lib.ListN.{length, take, drop, get_or, replicate, length-append, length-take, length-replicate, length-drop}
+use lib.ListN.{length, take, get_or, replicate, length-append, length-replicate}
 use lib.Seq.{take_at, drop_at, length-take-le}
-use Rattle.lists.specs.Choice.{pick, ◌and◌}
-use Rattle.lists.specs.Pages.{bit}
-use Rattle.lists.specs.Places.{place, laid}
 use Rattle.lists.specs.Sorting.{Row}
-use Rattle.lists.proofs.Choice.{cases, bit_le, pick_true, pick_false}
-use Rattle.lists.proofs.Laid.{length_laid}
-use Rattle.paging.specs.Layers.{is_join, top_after}
+use Rattle.paging.specs.Layers.{top_after}
 use Rattle.paging.specs.Policy.{kind_number}
-use Rattle.paging.specs.Rows.{rows_of, numbers_of, pages_of, used_rows, table_of}
-use Rattle.paging.specs.Table.{number_in, rule_in, rows_after, revealed}
+use Rattle.paging.specs.Rows.{rows_of, pages_of, used_rows, table_of}
+use Rattle.paging.specs.Table.{rule_in, rows_after}
 use Rattle.paging.proofs.Forming.{FormedRows, request_forms, used_table}
 use Rattle.paging.proofs.Rows.{rows_back, pages_length}
-use Rattle.marking.specs.Lists.{cached_in, rising}
-use Rattle.marking.specs.Marking.{Cached, pages_in, marks_in, priorities_in, mark_kind, mark_served, mark_bundle}
-use Rattle.marking.specs.Rdm.{Clock, is_revealed, time_next, t0_after, priority_next, joins_next, marking_next}
+use Rattle.marking.specs.Marking.{mark_kind}
+use Rattle.marking.specs.Rdm.{time_next, t0_after, priority_next, joins_next, marking_next}
 use Rattle.marking.proofs.Along.{Timed, clock_timed}
-use Rattle.marked.specs.Buffer.{BufferReady}
 use Rattle.marked.proofs.Kept.{laid_back, served_ready}
-use Rattle.mark.specs.Lent.{Lent, rows_in, held_in, times_of, evicted_served, lent_served}
+use Rattle.mark.specs.Lent.{Lent, rows_in, held_in, lent_served}
 use Rattle.mark.specs.declared.serving.Point.{Point}
 use Rattle.mark.specs.inner.Stepping.{StepReady, held_at, point_after}
 use Rattle.mark.proofs.Tables.{numbers_length}

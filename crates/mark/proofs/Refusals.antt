@@ -1,25 +1,23 @@
 -- The refusals of a request: which one falls, and what is known where none does.
-use Prim.Native.Nat.{ℕ, ◌+◌, ◌-◌, ◌≤◌, ◌<◌}
+use Prim.Native.Nat.{ℕ, ◌≤◌, ◌<◌}
 use native.Mathlib.Omega.{arith}
-use mathlib.Core.Bool.{Bool, true, false, not}
-use mathlib.Core.List.{List}
+use mathlib.Core.Bool.{true, false, not}
 use mathlib.Core.Path.{◌≡◌, refl, sym, ap, ◌∙◌}
-use lib.Dec.{eqb, leb, ltb}
+use lib.Dec.{eqb}
 use lib.ListN.{length, take}
-use borrow.Author.Tests.{eqb-true, eq-eqb, ne_eqb, leb-true, le-leb, lt-leb, not-false}
-use Rattle.lists.specs.Choice.{◌and◌}
-use Rattle.lists.proofs.Choice.{tests, cases, clash, and_i, and_l, and_r, and_false_l, and_false_r}
+use borrow.Author.Tests.{eqb-true, eq-eqb, ne_eqb, leb-true, le-leb, not-false}
+use Rattle.lists.proofs.Choice.{cases, clash, and_i, and_l, and_r, and_false_l, and_false_r}
 use Rattle.paging.specs.Refusals.{refuse, sizes_refusal, SizesRight}
 use Rattle.paging.specs.Rows.{rows_of}
 use Rattle.paging.specs.Table.{revealed}
-use Rattle.paging.proofs.Refusals.{zero_pass, Chain, chain_end, chain_refuse, chain_behind, chain_fall, chain_pass, sizes_chain, sizes_right, sizes_rest, sizes_taken, sizes_fall}
+use Rattle.paging.proofs.Refusals.{zero_pass, Chain, chain_end, chain_refuse, chain_behind, sizes_chain, sizes_rest, sizes_taken, sizes_fall}
 use Rattle.layers.specs.Calls as layers_calls
 use Rattle.layers.specs.Formed.{layers_well_formed}
 use Rattle.layers.specs.Questions.{revealed_reply, RevealedTold}
 use Rattle.layers.specs.declared.RevealedReply.{RevealedReply}
-use Rattle.layers.proofs.Refusing.{StateReady, state_ready, state_pass}
+use Rattle.layers.proofs.Refusing.{state_ready, state_pass}
 use Rattle.marking.specs.Lists.{rising, all_marks}
-use Rattle.mark.specs.Calls.{lists_refused, state_refusal, request_refusal}
+use Rattle.mark.specs.Calls.{lists_refused, state_refusal}
 use Rattle.mark.specs.Formed.{record_formed, buffer_formed, times_formed, mark_well_formed}
 use Rattle.mark.specs.Lent.{Lent, rows_in}
 use Rattle.mark.specs.declared.MarkRun.{MarkRun}

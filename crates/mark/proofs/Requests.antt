@@ -1,40 +1,34 @@
 -- A request from its judging to its answer.
-use Prim.Native.Nat.{ℕ, ◌+◌, ◌-◌, ◌≤◌, ◌<◌}
+use Prim.Native.Nat.{ℕ, ◌≤◌, ◌<◌}
 use native.Mathlib.Omega.{arith}
-use mathlib.Core.Bool.{Bool, true, false, not}
-use mathlib.Core.List.{List}
+use mathlib.Core.Bool.{Bool, true, false}
 use mathlib.Core.Path.{◌≡◌, refl, sym, ap, ◌∙◌}
-use lib.Dec.{eqb, ltb}
-use lib.ListN.{length, take, drop, replicate}
+use lib.Dec.{ltb}
+use lib.ListN.{length}
 use borrow.Author.Tests.{eq-eqb, ne_eqb}
-use Rattle.lists.specs.Choice.{pick}
-use Rattle.lists.specs.Pages.{bit}
 use Rattle.lists.specs.Places.{place}
-use Rattle.paging.specs.Layers.{top_after}
-use Rattle.paging.specs.Policy.{kind_number, is_load, is_bundled}
+use Rattle.paging.specs.Policy.{kind_number}
 use Rattle.paging.specs.Refusals.{refuse}
-use Rattle.paging.specs.Rows.{rows_of, used_rows, table_of}
+use Rattle.paging.specs.Rows.{rows_of, table_of}
 use Rattle.paging.specs.Table.{rule_in, revealed}
-use Rattle.paging.proofs.Refusals.{chain_fall, zero_pass}
+use Rattle.paging.proofs.Refusals.{chain_fall}
 use Rattle.paging.proofs.Rows.{rows_length}
 use Rattle.paging.proofs.Forming.{FormedRows}
-use Rattle.table.specs.Serving.{Sound, rule_of}
-use Rattle.layers.specs.Calls as layers_calls
-use Rattle.layers.specs.inner.Counting.{CountersFit}
+use Rattle.table.specs.Serving.{rule_of}
 use Rattle.layers.proofs.Forming.{formed_rows}
 use Rattle.layers.proofs.Refusing.{counters_fit}
 use Rattle.layers.proofs.WellFormed.{facts, well_table, ordered_shape}
 use Rattle.marking.specs.Marking.{mark_kind}
-use Rattle.marking.specs.Rdm.{joins_next, priority_next, marking_next}
+use Rattle.marking.specs.Rdm.{joins_next, priority_next}
 use Rattle.leaving.proofs.Cached.{length_cached}
 use Rattle.marked.proofs.Kept.{served_most}
-use Rattle.mark.specs.Calls.{holding, held, state_refusal, request_refusal, run_served, reply_served, refused, reply_of, lent_after, Answered}
-use Rattle.mark.specs.Lent.{Lent, rows_in, lent_served}
+use Rattle.mark.specs.Calls.{holding, held, state_refusal, request_refusal, reply_served, refused, reply_of, lent_after, Answered}
+use Rattle.mark.specs.Lent.{Lent, rows_in}
 use Rattle.mark.specs.declared.MarkReply.{MarkReply}
 use Rattle.mark.specs.declared.MarkRun.{MarkRun}
 use Rattle.mark.specs.declared.serving.Point.{Point}
 use Rattle.mark.specs.declared.serving.Stepped.{Stepped}
-use Rattle.mark.specs.inner.Stepping.{StepReady, held_at, point_after, SteppedTo, AnswerReady, answered_by}
+use Rattle.mark.specs.inner.Stepping.{StepReady, point_after, SteppedTo, AnswerReady, answered_by}
 use Rattle.mark.proofs.Points.{load_number, bundle_number}
 use Rattle.mark.proofs.Refusals.{Ready, ready, passes, state_chain}
 use Rattle.mark.proofs.Tables.{first_unused, used_fit, times_low, times_blank}

@@ -4,19 +4,18 @@ use native.Mathlib.Omega.{arith}
 use mathlib.Core.Bool.{Bool, true, false, not}
 use mathlib.Core.List.{List, [], ◌∷◌, ◌++◌, map}
 use mathlib.Core.Path.{◌≡◌, refl, sym, ap, ◌∙◌}
-use lib.Dec.{eqb, leb, ltb}
-use lib.ListN.{length, take, drop, get_or, replicate, length-append, length-take, length-replicate}
-use lib.Seq.{take_at, drop_at, length-take-le}
-use borrow.Author.Tests.{eqb-true, eq-eqb, ne_eqb, leb-true, ltb-true, lt-ltb, le-ltb}
-use Rattle.lists.specs.Choice.{pick, ◌and◌}
+use lib.Dec.{eqb, ltb}
+use lib.ListN.{length, take, drop, get_or, replicate, length-append, length-replicate}
+use lib.Seq.{take_at, drop_at}
+use borrow.Author.Tests.{eqb-true, ne_eqb, leb-true, ltb-true}
 use Rattle.lists.specs.Pages.{count, distinct}
 use Rattle.lists.specs.Places.{place}
 use Rattle.lists.specs.Sorting.{Row}
-use Rattle.lists.proofs.Choice.{tests, cases, split, clash, same_test, and_l, and_r, or_split, bit_true, bit_false, eqb_self, eqb_sym}
+use Rattle.lists.proofs.Choice.{tests, cases, split, same_test, and_l, and_r, or_split, bit_true, bit_false, eqb_sym}
 use Rattle.lists.proofs.Pages.{count_ext, once_distinct}
-use Rattle.paging.specs.Rows.{rows_of, numbers_of, pages_of, row_at, unused, used_rows, table_of}
-use Rattle.paging.specs.Table.{above_zero, number_in, size_of}
-use Rattle.paging.proofs.Rows.{rows_length, pages_length, pages_back, numbers_back}
+use Rattle.paging.specs.Rows.{rows_of, numbers_of, pages_of, unused, used_rows, table_of}
+use Rattle.paging.specs.Table.{number_in, size_of}
+use Rattle.paging.proofs.Rows.{pages_length, pages_back, numbers_back}
 use Rattle.marking.specs.Rdm.{beside, t0_after, times_after}
 use Rattle.mark.specs.Formed.{times_formed}
 

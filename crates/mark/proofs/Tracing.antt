@@ -9,23 +9,23 @@ use lib.Dec.{eqb, ltb}
 use lib.ListN.{length, take, drop, get_or, replicate, length-replicate, drop_of_length-le}
 use lib.Seq.{drop-cons, take-suc, take_all}
 use borrow.Author.Tests.{ltb-false}
-use Rattle.lists.specs.Choice.{pick, ◌or◌}
+use Rattle.lists.specs.Choice.{◌or◌}
 use Rattle.lists.specs.Pages.{bit}
 use Rattle.lists.specs.Sorting.{Row}
-use Rattle.lists.proofs.Choice.{cases, clash, bit_le, or_l}
+use Rattle.lists.proofs.Choice.{clash, bit_le, or_l}
 use Rattle.paging.specs.Policy.{kind_number, is_load, is_bundled}
 use Rattle.paging.specs.Refusals.{SizesRight}
 use Rattle.paging.specs.Rows.{rows_of, numbers_of, pages_of, unused, used_rows, table_of}
 use Rattle.paging.specs.Table.{rows_after, Tabled, nothing_yet, tabled_next, tabled_after}
 use Rattle.paging.proofs.Forming.{no_rows_formed}
-use Rattle.paging.proofs.Rows.{rows_back, pages_back, numbers_back}
+use Rattle.paging.proofs.Rows.{pages_back, numbers_back}
 use Rattle.paging.proofs.Table.{tabled_snoc}
 use Rattle.layers.specs.Traces.{overflows}
 use Rattle.marking.specs.Marking.{mark_kind, mark_bundles, mark_loads}
 use Rattle.marking.specs.Rdm.{Marking, no_marking, no_clock, time_next, is_revealed, rdm, marking_next, marking_after, clock_after}
 use Rattle.marking.proofs.Along.{marking_after_snoc, marking_layers, marking_clock, bundles_snoc, loads_snoc}
 use Rattle.mark.specs.Lent.{Lent, lent, rows_in, held_in, times_of, lent_served}
-use Rattle.mark.specs.Traces.{Table, table_with, table_after}
+use Rattle.mark.specs.Traces.{Table, table_with}
 use Rattle.mark.specs.declared.serving.Point.{Point}
 use Rattle.mark.specs.declared.serving.Stepped.{Stepped}
 use Rattle.mark.specs.inner.Over.{TraceReady, ServedOver}

@@ -6,7 +6,7 @@ use Rattle.lists.specs.Sorting.{Row}
 use Rattle.paging.specs.Policy.{is_bundled}
 use Rattle.paging.specs.Rows.{rows_of, numbers_of, pages_of, used_rows, table_of}
 use Rattle.marking.specs.Lists.{cached_in}
-use Rattle.marking.specs.Marking.{Cached, pages_in, marks_in, priorities_in, cleared, mark_bundle, mark_kind}
+use Rattle.marking.specs.Marking.{pages_in, marks_in, priorities_in, cleared, mark_bundle, mark_kind}
 use Rattle.marking.specs.Rdm.{Marking, joins_next, marking_next}
 
 -- the cached pages with their marks and priorities, the evicted list, and the layer table with t0 beside it

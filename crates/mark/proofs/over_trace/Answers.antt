@@ -1,6 +1,5 @@
 use mathlib.Core.Path.{sym, ◌∙◌}
 use Rattle.mark.proofs.Blank.{refused_over, early_over, trace_ready, over_full, over_done}
-use borrow.Author.Rules.{rules}
 use Rattle.mark.proofs.over_trace.Goals as goal
 
 pub returns-then-no-ne0 : goal.returns-then-no-ne0

@@ -1,7 +1,4 @@
-use native.Mathlib.Omega.{arith}
-use mathlib.Core.Path.{refl}
 use Rattle.mark.proofs.Requests.{answer_refused, taken, step_ready, answer_ready, answer_full, count_small, answer_served}
-use borrow.Author.Rules.{rules}
 use Rattle.mark.proofs.request.Goals as goal
 
 pub returns-then-judged-ne0 : goal.returns-then-judged-ne0

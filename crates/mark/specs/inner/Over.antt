@@ -1,5 +1,5 @@
 -- What the function that serves a whole trace promises.
-use Rattle.std.specs.Prelude.{ℕ, ◌≤◌, true, false, List, ◌≡◌, length, replicate}
+use Rattle.std.specs.Prelude.{ℕ, ◌≤◌, false, List, ◌≡◌, length, replicate}
 use Rattle.paging.specs.Refusals.{SizesRight, longest_trace}
 use Rattle.paging.specs.Table.{nothing_yet}
 use Rattle.layers.specs.Traces.{overflows}

@@ -2,7 +2,6 @@ use native.Mathlib.Omega.{arith}
 use mathlib.Core.Path.{sym}
 use lib.ListN.{length-take}
 use lib.Seq.{length-take-le}
-use borrow.Author.Rules.{rules}
 use Rattle.report.proofs.FiguresLaws.{input_refused, input_right, input_figures}
 use Rattle.report.proofs.Prefix.{read_enough}
 use Rattle.report.proofs.of_input.Goals as goal

@@ -1,10 +1,7 @@
-use Prim.Native.Nat.{◌-◌}
 use native.Mathlib.Omega.{arith}
 use mathlib.Core.Path.{◌∙◌}
-use lib.ListN.{length}
-use borrow.Author.Rules.{rules}
 use Rattle.traces.proofs.CountLaws.{request_fact, no_sizes}
-use Rattle.editions.proofs.MeasureLaws.{MeasuringAt, measuring_first, size_fits, measured_too_many, measuring_next, measured_all, measured_damage}
+use Rattle.editions.proofs.MeasureLaws.{measuring_first, size_fits, measured_too_many, measuring_next, measured_all, measured_damage}
 use Rattle.editions.proofs.measure.measure.Goals as goal
 
 pub loop-page-init : goal.loop-page-init

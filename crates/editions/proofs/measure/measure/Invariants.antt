@@ -1,11 +1,7 @@
 -- `measure` meets its contract: what is measured and what stands from the offset on make up the whole.
 use Prim.Native.Nat.{◌-◌}
-use native.Mathlib.Omega.{arith}
-use mathlib.Core.Path.{◌∙◌}
 use lib.ListN.{length}
-use borrow.Author.Rules.{rules}
-use Rattle.traces.proofs.CountLaws.{request_fact, no_sizes}
-use Rattle.editions.proofs.MeasureLaws.{MeasuringAt, measuring_first, size_fits, measured_too_many, measuring_next, measured_all, measured_damage}
+use Rattle.editions.proofs.MeasureLaws.{MeasuringAt}
 use Rattle.editions.proofs.measure.measure.Given as goal
 
 abbrev pub invariant-loop-page : goal.invariant-loop-page

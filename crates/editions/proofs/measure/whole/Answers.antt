@@ -2,7 +2,6 @@
 use native.Mathlib.Omega.{arith}
 use mathlib.Core.Path.{ap}
 use Prim.Native.Nat.{ℕ, ◌+◌}
-use borrow.Author.Rules.{rules}
 use Rattle.editions.proofs.MeasureLaws.{last_small}
 use Rattle.editions.proofs.measure.whole.Goals as goal
 

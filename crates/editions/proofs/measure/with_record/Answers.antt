@@ -1,6 +1,5 @@
 -- `with_record` meets its contract: another page ends the last run, the same page makes it longer, or a full RR is put before what is left of it.
 use native.Mathlib.Omega.{arith}
-use borrow.Author.Rules.{rules}
 use Rattle.editions.proofs.MeasureLaws.{last_small, added_other, added_same, added_full}
 use Rattle.editions.proofs.measure.with_record.Goals as goal
 

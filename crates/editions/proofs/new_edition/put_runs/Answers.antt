@@ -1,7 +1,5 @@
-use Prim.Native.Nat.{◌-◌}
 use native.Mathlib.Omega.{arith}
-use borrow.Author.Rules.{rules}
-use Rattle.editions.proofs.Written.{WritingRuns, passing_rest, run_few, runs_first, runs_fit, runs_next, runs_done}
+use Rattle.editions.proofs.Written.{passing_rest, run_few, runs_first, runs_fit, runs_next, runs_done}
 use Rattle.editions.proofs.new_edition.put_runs.Goals as goal
 
 pub loop-i-init : goal.loop-i-init

@@ -1,8 +1,6 @@
 -- `put_runs` meets its contract: a record for each run.
 use Prim.Native.Nat.{◌-◌}
-use native.Mathlib.Omega.{arith}
-use borrow.Author.Rules.{rules}
-use Rattle.editions.proofs.Written.{WritingRuns, passing_rest, run_few, runs_first, runs_fit, runs_next, runs_done}
+use Rattle.editions.proofs.Written.{WritingRuns}
 use Rattle.editions.proofs.new_edition.put_runs.Given as goal
 
 abbrev pub invariant-loop-i : goal.invariant-loop-i

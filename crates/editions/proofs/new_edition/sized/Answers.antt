@@ -1,7 +1,6 @@
 -- `new_edition::sized` meets its contract: the refusals of the requests, then 8, else the KA and the records behind it.
 use native.Mathlib.Omega.{arith}
 use mathlib.Core.Path.{refl}
-use borrow.Author.Rules.{rules}
 use Rattle.editions.proofs.CallLaws.{short_by, enough_by, new_told_refused, new_told, new_length_is, turned_refused, sizes_small, requests_are, turned_short, behind_fits, turned_whole}
 use Rattle.editions.proofs.new_edition.sized.Goals as goal
 

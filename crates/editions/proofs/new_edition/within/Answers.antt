@@ -1,6 +1,5 @@
 -- `new_edition::within` meets its contract: what stands at the start is refused, or it is a KA with right sizes.
 use mathlib.Core.Path.{sym, ap, ◌∙◌}
-use borrow.Author.Rules.{rules}
 use Rattle.reading.specs.Answers.{start_answer}
 use Rattle.editions.proofs.CallLaws.{new_starts_damaged}
 use Rattle.editions.proofs.new_edition.within.Goals as goal

@@ -1,6 +1,5 @@
 -- `put_requests` meets its contract: a single RQ, or as many as the record has requests.
 use native.Mathlib.Omega.{arith}
-use borrow.Author.Rules.{rules}
 use Rattle.editions.proofs.Written.{single_room, single_same}
 use Rattle.editions.proofs.old_edition.put_requests.Goals as goal
 

@@ -1,6 +1,5 @@
 use native.Mathlib.Omega.{arith}
-use borrow.Author.Rules.{rules}
-use Rattle.editions.proofs.Written.{WritingSame, same_first, same_fits, same_next, same_done}
+use Rattle.editions.proofs.Written.{same_first, same_fits, same_next, same_done}
 use Rattle.editions.proofs.old_edition.put_same.Goals as goal
 
 pub loop-left-init : goal.loop-left-init

@@ -1,7 +1,5 @@
 -- `put_same` meets its contract: one RQ behind the other.
-use native.Mathlib.Omega.{arith}
-use borrow.Author.Rules.{rules}
-use Rattle.editions.proofs.Written.{WritingSame, same_first, same_fits, same_next, same_done}
+use Rattle.editions.proofs.Written.{WritingSame}
 use Rattle.editions.proofs.old_edition.put_same.Given as goal
 
 abbrev pub invariant-loop-left : goal.invariant-loop-left

@@ -1,7 +1,5 @@
-use Prim.Native.Nat.{◌-◌}
 use native.Mathlib.Omega.{arith}
-use borrow.Author.Rules.{rules}
-use Rattle.editions.proofs.Written.{WritingSingles, singles_first, singles_there, singles_fit, singles_few, singles_next, singles_done}
+use Rattle.editions.proofs.Written.{singles_first, singles_there, singles_fit, singles_few, singles_next, singles_done}
 use Rattle.editions.proofs.old_edition.put_singles.Goals as goal
 
 pub loop-i-init : goal.loop-i-init

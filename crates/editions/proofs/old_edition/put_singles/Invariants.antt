@@ -1,8 +1,6 @@
 -- `put_singles` meets its contract: for each record as many RQs as it has requests.
 use Prim.Native.Nat.{◌-◌}
-use native.Mathlib.Omega.{arith}
-use borrow.Author.Rules.{rules}
-use Rattle.editions.proofs.Written.{WritingSingles, singles_first, singles_there, singles_fit, singles_few, singles_next, singles_done}
+use Rattle.editions.proofs.Written.{WritingSingles}
 use Rattle.editions.proofs.old_edition.put_singles.Given as goal
 
 abbrev pub invariant-loop-i : goal.invariant-loop-i

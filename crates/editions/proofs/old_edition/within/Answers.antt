@@ -1,6 +1,5 @@
 -- `old_edition::within` meets its contract: the input's own refusals, then 8, else the KA and the records behind it.
 use native.Mathlib.Omega.{arith}
-use borrow.Author.Rules.{rules}
 use Rattle.reading.specs.Files.{requests_from}
 use Rattle.editions.proofs.CallLaws.{short_by, enough_by, old_length_is, old_told, turned_refused, sizes_small, requests_are, turned_short, behind_fits, turned_whole}
 use Rattle.editions.proofs.old_edition.within.Goals as goal

@@ -1,5 +1,4 @@
 -- `program::to_new` meets its contract: the call with 4,096 requests; the bytes read and the room lent are enough.
-use borrow.Author.Rules.{rules}
 use Rattle.editions.specs.Editions.{new_bytes}
 use Rattle.editions.proofs.Programs.{new_is_short, program_promises}
 use Rattle.editions.proofs.program.to_new.Goals as goal

@@ -1,5 +1,4 @@
 -- `begun` meets its contract: a run is begun, or the record at the offset begins one.
-use borrow.Author.Rules.{rules}
 use Rattle.cursor.proofs.Laws.{some_there}
 use Rattle.editions.proofs.Taking.{begun_there}
 use Rattle.editions.proofs.runs.begun.Goals as goal

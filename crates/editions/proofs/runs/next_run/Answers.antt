@@ -1,8 +1,5 @@
-use Prim.Native.Nat.{◌-◌}
 use native.Mathlib.Omega.{arith}
-use borrow.Author.Rules.{rules}
-use Rattle.cursor.proofs.Laws.{rest}
-use Rattle.editions.proofs.Taking.{InRun, run_first, taken_before, more_there, run_last, run_other, run_full, run_grows}
+use Rattle.editions.proofs.Taking.{run_first, taken_before, more_there, run_last, run_other, run_full, run_grows}
 use Rattle.editions.proofs.runs.next_run.Goals as goal
 
 pub begun-first-requires : goal.begun-first-requires

@@ -1,9 +1,7 @@
 -- `next_run` meets its contract: records of one page are added to the run, until another page, the longest RR or the last request ends it.
 use Prim.Native.Nat.{◌-◌}
-use native.Mathlib.Omega.{arith}
-use borrow.Author.Rules.{rules}
 use Rattle.cursor.proofs.Laws.{rest}
-use Rattle.editions.proofs.Taking.{InRun, run_first, taken_before, more_there, run_last, run_other, run_full, run_grows}
+use Rattle.editions.proofs.Taking.{InRun}
 use Rattle.editions.proofs.runs.next_run.Given as goal
 
 abbrev pub invariant-loop-times : goal.invariant-loop-times

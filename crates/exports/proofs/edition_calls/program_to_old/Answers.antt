@@ -1,7 +1,6 @@
 -- `program_to_old` meets its contract: the fields of the answer are stored, and lent lists are as the call leaves them.
 use Rattle.exports.proofs.Stored.{stored}
 use Rattle.exports.specs.Fields.{converted_fields}
-use borrow.Author.Rules.{rules}
 use Rattle.exports.proofs.edition_calls.program_to_old.Goals as goal
 
 pub returns : goal.returns

@@ -1,7 +1,6 @@
 -- `layers_possible` meets its contract: the fields of the answer are stored.
 use Rattle.exports.proofs.Stored.{stored}
 use Rattle.exports.specs.Cases.{verdict_fields}
-use borrow.Author.Rules.{rules}
 use Rattle.exports.proofs.layers_calls.layers_possible.Goals as goal
 
 pub returns : goal.returns

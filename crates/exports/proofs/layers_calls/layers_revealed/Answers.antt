@@ -1,7 +1,6 @@
 -- `layers_revealed` meets its contract: the fields of the answer are stored, and lent lists are as the call leaves them.
 use Rattle.exports.proofs.Stored.{stored}
 use Rattle.exports.specs.Fields.{revealed_fields}
-use borrow.Author.Rules.{rules}
 use Rattle.exports.proofs.layers_calls.layers_revealed.Goals as goal
 
 pub returns : goal.returns

@@ -1,7 +1,6 @@
 -- `lru_request` meets its contract: the fields of the answer are stored, and lent lists are as the call leaves them.
 use Rattle.exports.proofs.Stored.{stored}
 use Rattle.exports.specs.Fields.{queue_reply_fields}
-use borrow.Author.Rules.{rules}
 use Rattle.exports.proofs.lru_calls.lru_request.Goals as goal
 
 pub returns : goal.returns

@@ -1,7 +1,6 @@
 -- `mark_over_trace` meets its contract: the fields of the answer are stored, and lent lists are as the call leaves them.
 use Rattle.exports.proofs.Stored.{stored}
 use Rattle.exports.specs.Fields.{mark_totals_fields}
-use borrow.Author.Rules.{rules}
 use Rattle.exports.proofs.mark_calls.mark_over_trace.Goals as goal
 
 pub returns : goal.returns

@@ -1,7 +1,6 @@
 -- `mark_request` meets its contract: the fields of the answer are stored, and lent lists are as the call leaves them.
 use Rattle.exports.proofs.Stored.{stored}
 use Rattle.exports.specs.Fields.{mark_reply_fields}
-use mathlib.Core.Path.{sym}
 use Rattle.exports.proofs.mark_calls.mark_request.Goals as goal
 
 pub returns : goal.returns

@@ -1,7 +1,5 @@
 -- `reply_fields` meets its contract: each field is widened and none is left out.
 use mathlib.Core.Path.{refl}
-use mir.Facts.{Fits-widen}
-use borrow.Author.Rules.{rules}
 use Rattle.exports.proofs.mark_calls.reply_fields.Goals as goal
 
 pub returns : goal.returns

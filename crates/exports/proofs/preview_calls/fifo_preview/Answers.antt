@@ -1,7 +1,6 @@
 -- `fifo_preview` meets its contract: the fields of the answer are stored, and the evicted list is as the call leaves it.
 use Rattle.exports.proofs.Stored.{stored}
 use Rattle.exports.specs.Fields.{queue_reply_fields}
-use borrow.Author.Rules.{rules}
 use Rattle.exports.proofs.preview_calls.fifo_preview.Goals as goal
 
 pub returns : goal.returns

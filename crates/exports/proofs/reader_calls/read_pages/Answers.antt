@@ -5,7 +5,6 @@ use mathlib.Core.List.{List, [], ◌∷◌}
 use Prim.Native.Nat.{ℕ}
 use lib.ListN.{length}
 use Rattle.lists.specs.Places.{pasted}
-use borrow.Author.Rules.{rules}
 use Rattle.exports.proofs.reader_calls.read_pages.Goals as goal
 
 pub returns : goal.returns

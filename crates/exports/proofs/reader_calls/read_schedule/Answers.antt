@@ -1,7 +1,6 @@
 -- `read_schedule` meets its contract: the fields of the answer are stored, and lent lists are as the call leaves them.
 use Rattle.exports.proofs.Stored.{stored}
 use Rattle.exports.specs.Cases.{answer_fields}
-use borrow.Author.Rules.{rules}
 use Rattle.exports.proofs.reader_calls.read_schedule.Goals as goal
 
 pub returns : goal.returns

@@ -1,7 +1,6 @@
 -- `schedule_fields` meets its contract: each arm gives the fields of its case.
 use mathlib.Core.Path.{sym, ap}
 use Rattle.exports.specs.Cases.{schedule_fields}
-use borrow.Author.Rules.{rules}
 use Rattle.exports.proofs.reader_calls.schedule_fields.Goals as goal
 
 pub returns-in-Refused : goal.returns-in-Refused

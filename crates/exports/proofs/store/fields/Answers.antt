@@ -2,7 +2,6 @@
 use native.Mathlib.Omega.{arith}
 use mathlib.Core.Path.{◌∙◌}
 use Rattle.lists.proofs.Leaves.{pasted_whole, pasted_part}
-use borrow.Author.Rules.{rules}
 use Rattle.exports.proofs.store.fields.Goals as goal
 
 pub returns-then-fields-out : goal.returns-then-fields-out

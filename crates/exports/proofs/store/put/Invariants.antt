@@ -1,10 +1,7 @@
 -- `store::put` meets its contract: the first i places are those of the first list, the others as they were.
 use Prim.Native.Nat.{◌≤◌, ◌-◌}
-use native.Mathlib.Omega.{arith}
-use mathlib.Core.Path.{◌≡◌, refl}
-use lib.ListN.{length, length-set}
-use Rattle.lists.proofs.Leaves.{over_none, over_stored, put_done}
-use borrow.Author.Rules.{rules}
+use mathlib.Core.Path.{◌≡◌}
+use lib.ListN.{length}
 use Rattle.lists.specs.Places.{over}
 use Rattle.exports.proofs.store.put.Given as goal
 

@@ -1,10 +1,7 @@
-use Prim.Native.Nat.{◌≤◌, ◌-◌}
 use native.Mathlib.Omega.{arith}
-use mathlib.Core.Path.{◌≡◌, refl}
-use lib.ListN.{length, length-set}
+use mathlib.Core.Path.{refl}
+use lib.ListN.{length-set}
 use Rattle.lists.proofs.Leaves.{over_none, over_stored, put_done}
-use borrow.Author.Rules.{rules}
-use Rattle.lists.specs.Places.{over}
 use Rattle.exports.proofs.store.put_bytes.Goals as goal
 
 pub loop-i-init : goal.loop-i-init

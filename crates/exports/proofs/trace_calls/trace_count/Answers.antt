@@ -1,7 +1,6 @@
 -- `trace_count` meets its contract: the fields of the answer are stored, and lent lists are as the call leaves them.
 use Rattle.exports.proofs.Stored.{stored}
 use Rattle.exports.specs.Fields.{trace_count_fields}
-use borrow.Author.Rules.{rules}
 use Rattle.exports.proofs.trace_calls.trace_count.Goals as goal
 
 pub returns : goal.returns

@@ -1,7 +1,6 @@
 -- `write_rq` meets its contract: the fields of the answer are stored, and lent lists are as the call leaves them.
 use Rattle.exports.proofs.Stored.{stored}
 use Rattle.exports.specs.Cases.{wrote_fields}
-use borrow.Author.Rules.{rules}
 use Rattle.exports.proofs.writer_calls.write_rq.Goals as goal
 
 pub returns : goal.returns

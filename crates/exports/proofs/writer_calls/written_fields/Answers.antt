@@ -1,7 +1,6 @@
 -- `written_fields` meets its contract: each arm gives the fields of its case.
 use mathlib.Core.Path.{sym, ap}
 use Rattle.exports.specs.Cases.{written_fields}
-use borrow.Author.Rules.{rules}
 use Rattle.exports.proofs.writer_calls.written_fields.Goals as goal
 
 pub returns-in-Next : goal.returns-in-Next

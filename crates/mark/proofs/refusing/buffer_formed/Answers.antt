@@ -2,7 +2,6 @@ use native.Mathlib.Omega.{arith}
 use mathlib.Core.Path.{sym, ◌∙◌}
 use lib.ListN.{length-take}
 use Rattle.mark.proofs.Formed.{buffer_many, buffer_unordered, buffer_marks}
-use borrow.Author.Rules.{rules}
 use Rattle.mark.proofs.refusing.buffer_formed.Goals as goal
 
 pub returns-then-count-k : goal.returns-then-count-k

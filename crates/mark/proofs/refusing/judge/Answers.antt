@@ -2,7 +2,6 @@ use native.Mathlib.Omega.{arith}
 use mathlib.Core.Path.{sym, ◌∙◌}
 use Rattle.paging.proofs.Refusals.{sizes_right}
 use Rattle.mark.proofs.Refusals.{room, judged_sizes, judged_lists, judged_record, judged_buffer, judged_layers, judged_times, judged_last, judged_none}
-use borrow.Author.Rules.{rules}
 use Rattle.mark.proofs.refusing.judge.Goals as goal
 
 pub returns-then-no-ne0 : goal.returns-then-no-ne0

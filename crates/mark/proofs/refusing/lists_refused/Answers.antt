@@ -1,6 +1,5 @@
 use native.Mathlib.Omega.{arith}
 use Rattle.mark.proofs.Formed.{lists_wrong, lists_last}
-use borrow.Author.Rules.{rules}
 use Rattle.mark.proofs.refusing.lists_refused.Goals as goal
 
 pub returns-then-cache-k : goal.returns-then-cache-k

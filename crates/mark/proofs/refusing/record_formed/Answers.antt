@@ -1,6 +1,5 @@
 use native.Mathlib.Omega.{arith}
 use Rattle.mark.proofs.Formed.{record_ill, record_last}
-use borrow.Author.Rules.{rules}
 use Rattle.mark.proofs.refusing.record_formed.Goals as goal
 
 pub returns-then-run : goal.returns-then-run

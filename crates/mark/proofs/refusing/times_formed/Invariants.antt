@@ -1,12 +1,9 @@
 use Prim.Native.Nat.{◌≤◌, ◌-◌}
-use native.Mathlib.Omega.{arith}
 use mathlib.Core.Bool.{not}
 use mathlib.Core.Path.{◌≡◌}
 use lib.ListN.{length, drop}
 use Rattle.lists.specs.Choice.{◌and◌}
 use Rattle.mark.specs.Formed.{times_formed}
-use Rattle.mark.proofs.Formed.{times_start, times_turn, times_end}
-use borrow.Author.Rules.{rules}
 use Rattle.mark.proofs.refusing.times_formed.Given as goal
 
 abbrev pub invariant-loop-i : goal.invariant-loop-i

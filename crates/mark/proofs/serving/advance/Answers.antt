@@ -1,7 +1,6 @@
 use mathlib.Core.Path.{sym}
 use lib.Seq.{length-take-le}
 use Rattle.mark.proofs.Advancing.{timed_ready, few_shown, rank_fits, advanced}
-use borrow.Author.Rules.{rules}
 use Rattle.mark.proofs.serving.advance.Goals as goal
 
 pub slice_bounds-find-end-2 : goal.slice_bounds-find-end-2

@@ -2,7 +2,6 @@ use native.Mathlib.Omega.{arith}
 use mathlib.Core.Path.{refl}
 use lib.Dec.{eqb, ltb}
 use Rattle.lists.proofs.Choice.{bit_le}
-use borrow.Author.Rules.{rules}
 use Rattle.mark.proofs.serving.answered.Goals as goal
 
 pub overflow_add-run-2 : goal.overflow_add-run-2

@@ -1,7 +1,6 @@
 use mathlib.Core.Path.{sym}
 use borrow.Author.Tests.{eq-eqb, ne_eqb}
 use Rattle.lists.proofs.Choice.{bit_true, bit_false}
-use borrow.Author.Rules.{rules}
 use Rattle.mark.proofs.serving.bundles.Goals as goal
 
 pub returns-then-answer-eq2 : goal.returns-then-answer-eq2

@@ -1,5 +1,4 @@
 use mathlib.Core.Path.{refl}
-use borrow.Author.Rules.{rules}
 use Rattle.mark.proofs.serving.layers_after.Goals as goal
 
 pub returns-in-Append : goal.returns-in-Append

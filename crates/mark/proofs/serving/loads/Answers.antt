@@ -1,7 +1,6 @@
 use mathlib.Core.Path.{sym}
 use borrow.Author.Tests.{lt-ltb, le-ltb}
 use Rattle.lists.proofs.Choice.{bit_true, bit_false}
-use borrow.Author.Rules.{rules}
 use Rattle.mark.proofs.serving.loads.Goals as goal
 
 pub returns-then-answer-gt0 : goal.returns-then-answer-gt0

@@ -1,5 +1,4 @@
 use Rattle.mark.proofs.Stepping.{stepped_full, stepped_served}
-use borrow.Author.Rules.{rules}
 use Rattle.mark.proofs.serving.step.Goals as goal
 
 pub advance-moved-requires : goal.advance-moved-requires

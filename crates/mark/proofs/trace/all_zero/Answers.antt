@@ -1,12 +1,5 @@
-use Prim.Native.Nat.{◌≤◌, ◌-◌}
 use native.Mathlib.Omega.{arith}
-use mathlib.Core.Bool.{not}
-use mathlib.Core.Path.{◌≡◌}
-use lib.ListN.{length, drop}
-use Rattle.lists.specs.Choice.{◌and◌}
-use Rattle.mark.specs.Traces.{all_zero}
 use Rattle.mark.proofs.Blank.{zero_start, zero_turn, zero_end}
-use borrow.Author.Rules.{rules}
 use Rattle.mark.proofs.trace.all_zero.Goals as goal
 
 pub loop-i-init : goal.loop-i-init

@@ -1,12 +1,9 @@
 use Prim.Native.Nat.{◌≤◌, ◌-◌}
-use native.Mathlib.Omega.{arith}
 use mathlib.Core.Bool.{not}
 use mathlib.Core.Path.{◌≡◌}
 use lib.ListN.{length, drop}
 use Rattle.lists.specs.Choice.{◌and◌}
 use Rattle.mark.specs.Traces.{all_zero}
-use Rattle.mark.proofs.Blank.{zero_start, zero_turn, zero_end}
-use borrow.Author.Rules.{rules}
 use Rattle.mark.proofs.trace.all_zero.Given as goal
 
 abbrev pub invariant-loop-i : goal.invariant-loop-i

@@ -1,7 +1,6 @@
 use mathlib.Core.Path.{sym, ◌∙◌}
 use Rattle.lists.proofs.Choice.{and_false_l, and_false_r}
 use Rattle.mark.proofs.Blank.{early_trace, early_numbers, early_times, early_used, early_none}
-use borrow.Author.Rules.{rules}
 use Rattle.mark.proofs.trace.early_refusal.Goals as goal
 
 pub returns-then-no-ne0 : goal.returns-then-no-ne0

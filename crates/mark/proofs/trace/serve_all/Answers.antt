@@ -1,5 +1,4 @@
 use Rattle.mark.proofs.WholeBundles.{whole_ready, whole_served}
-use borrow.Author.Rules.{rules}
 use Rattle.mark.proofs.trace.serve_all.Goals as goal
 
 pub serve_whole_bundles-requires : goal.serve_whole_bundles-requires

@@ -1,11 +1,7 @@
-use Prim.Native.Nat.{◌-◌}
 use native.Mathlib.Omega.{arith}
-use mathlib.Core.Path.{◌≡◌, refl, ◌∙◌}
+use mathlib.Core.Path.{refl, ◌∙◌}
 use lib.Dec.{eqb, ltb}
-use lib.ListN.{length}
-use Rattle.mark.specs.Lent.{lent}
-use Rattle.mark.proofs.Tracing.{SoFar, tracing_begin, tracing_full, tracing_next, tracing_end, bundles_fit, loads_fit}
-use borrow.Author.Rules.{rules}
+use Rattle.mark.proofs.Tracing.{tracing_begin, tracing_full, tracing_next, tracing_end, bundles_fit, loads_fit}
 use Rattle.mark.proofs.trace.serve_buffered.Goals as goal
 
 pub loop-i-init : goal.loop-i-init

@@ -1,11 +1,8 @@
 use Prim.Native.Nat.{◌-◌}
-use native.Mathlib.Omega.{arith}
-use mathlib.Core.Path.{◌≡◌, refl, ◌∙◌}
-use lib.Dec.{eqb, ltb}
+use mathlib.Core.Path.{◌≡◌}
 use lib.ListN.{length}
 use Rattle.mark.specs.Lent.{lent}
-use Rattle.mark.proofs.Tracing.{SoFar, tracing_begin, tracing_full, tracing_next, tracing_end, bundles_fit, loads_fit}
-use borrow.Author.Rules.{rules}
+use Rattle.mark.proofs.Tracing.{SoFar}
 use Rattle.mark.proofs.trace.serve_buffered.Given as goal
 
 abbrev pub invariant-loop-i : goal.invariant-loop-i

@@ -1,11 +1,7 @@
-use Prim.Native.Nat.{◌-◌}
 use native.Mathlib.Omega.{arith}
-use mathlib.Core.Path.{◌≡◌, refl, ◌∙◌}
+use mathlib.Core.Path.{refl, ◌∙◌}
 use lib.Dec.{eqb, ltb}
-use lib.ListN.{length}
-use Rattle.mark.specs.Traces.{table_with}
-use Rattle.mark.proofs.WholeBundles.{Unkept, unkept_begin, unkept_ready, unkept_full, unkept_next, unkept_end, bundles_fit, loads_fit}
-use borrow.Author.Rules.{rules}
+use Rattle.mark.proofs.WholeBundles.{unkept_begin, unkept_ready, unkept_full, unkept_next, unkept_end, bundles_fit, loads_fit}
 use Rattle.mark.proofs.trace.serve_whole_bundles.Goals as goal
 
 pub loop-i-init : goal.loop-i-init

@@ -1,11 +1,8 @@
 use Prim.Native.Nat.{◌-◌}
-use native.Mathlib.Omega.{arith}
-use mathlib.Core.Path.{◌≡◌, refl, ◌∙◌}
-use lib.Dec.{eqb, ltb}
+use mathlib.Core.Path.{◌≡◌}
 use lib.ListN.{length}
 use Rattle.mark.specs.Traces.{table_with}
-use Rattle.mark.proofs.WholeBundles.{Unkept, unkept_begin, unkept_ready, unkept_full, unkept_next, unkept_end, bundles_fit, loads_fit}
-use borrow.Author.Rules.{rules}
+use Rattle.mark.proofs.WholeBundles.{Unkept}
 use Rattle.mark.proofs.trace.serve_whole_bundles.Given as goal
 
 abbrev pub invariant-loop-i : goal.invariant-loop-i

@@ -1,4 +1,3 @@
-use borrow.Author.Rules.{rules}
 use Rattle.report.proofs.FiguresLaws.{figures_told}
 use Rattle.report.proofs.figures.of.Goals as goal
 
