@@ -6,7 +6,7 @@ use mathlib.Core.Path.{◌≡◌, refl, sym, ap, ◌∙◌}
 use lib.ListN.{length, drop, replicate}
 use Rattle.lists.proofs.Choice.{split}
 use Rattle.wire.specs.Numbers.{num16, num32}
-use Rattle.records.specs.Marks.{mark_rQ, mark_rR}
+use Rattle.records.specs.Marks.{mark_rq, mark_rr}
 use Rattle.reading.specs.Files.{File, requests_from, before}
 use Rattle.reading.specs.Reading.{Answer, refused, ended, sizes, request, bundle, fetch, read_trace}
 use Rattle.reading.proofs.Facts.{TraceFacts, trace_facts, trace_says, RequestAt, RqAt, RrAt}
@@ -75,9 +75,9 @@ module _ (s : List ℕ) (at : ℕ) (z : 0 < at) (h : 0 < length (requests_from s
   pub record_inside : at + 6 ≤ length s
   record_inside = form (λ q. q.inside) (λ q. let i = q.inside in omega arith)
 
-  module _ (mark : num16 (drop at s) ≡ mark_rR) where
+  module _ (mark : num16 (drop at s) ≡ mark_rr) where
     run_here : RrAt s at here.page here.times here.next
-    run_here = form (λ q. let m : mark_rQ ≡ mark_rR = sym q.mark ∙ mark in absurd (omega arith)) (λ q. q)
+    run_here = form (λ q. let m : mark_rq ≡ mark_rr = sym q.mark ∙ mark in absurd (omega arith)) (λ q. q)
 
     pub run_inside : at + 8 ≤ length s
     run_inside = run_here.inside
@@ -86,7 +86,7 @@ module _ (s : List ℕ) (at : ℕ) (z : 0 < at) (h : 0 < length (requests_from s
         → Begun (rest page times (at + 8)) × (requests_from s at ≡ requests_left s (rest page times (at + 8)))
     run_begun page times ep et few = begun_is page times (at + 8) (run_here.page_is ∙ sym ep) (run_here.times_is ∙ sym et) run_here.behind few
 
-  module _ (mark : num16 (drop at s) ≡ mark_rR → ⊥) where
+  module _ (mark : num16 (drop at s) ≡ mark_rr → ⊥) where
     single_here : RqAt s at here.page here.times here.next
     single_here = form (λ q. q) (λ q. absurd (mark q.mark))
 

@@ -12,7 +12,7 @@ use Rattle.wire.specs.Numbers.{Bytes, num16, num32, bytes16, bytes32, all_bytes3
 use Rattle.wire.proofs.Numbers.{bytes_drop, bytes16_num16, bytes32_num32, all_bytes32_nums32, length_nums32}
 use Rattle.records.specs.Bytes.{ka_bytes, rq_bytes, rr_bytes, ev_bytes, pf_bytes, entry_bytes, joined, TraceEntry, rq, rr, trace_entry_bytes, requests_of, all_requests_of}
 use Rattle.records.specs.Bytes.{RunWritable, RunsWritable, TraceFileOf, schedule_bytes}
-use Rattle.records.specs.Marks.{mark_kA, mark_rQ, mark_rR, mark_eV, mark_pF}
+use Rattle.records.specs.Marks.{mark_ka, mark_rq, mark_rr, mark_ev, mark_pf}
 use Rattle.reading.specs.Files.{File, onward, walk, pages_in, requests_from, entries_in, entries_from}
 use Rattle.reading.specs.Reading.{Answer, refused, ended, sizes, request, bundle, fetch, read_trace, read_schedule}
 use Rattle.reading.proofs.Facts.{KaAt, RqAt, RrAt, RequestAt, EvAt, PfAt, TraceFacts, ScheduleFacts, trace_facts, schedule_facts, trace_says, schedule_says}
@@ -51,36 +51,36 @@ module _ (s : List ℕ) (h : Bytes s) where
   pub ka_exact : (at k a next : ℕ) → KaAt s at k a next → s ≡ ka_bytes k a ++ drop 6 s
   ka_exact at k a next f =
       let i : 6 ≤ length s = f.inside in
-      let e1 : s ≡ bytes16 mark_kA ++ drop 2 s = in16 0 2 mark_kA (omega arith) (sym f.mark) refl in
+      let e1 : s ≡ bytes16 mark_ka ++ drop 2 s = in16 0 2 mark_ka (omega arith) (sym f.mark) refl in
       let e2 : drop 2 s ≡ bytes16 k ++ drop 4 s = in16 2 4 k (omega arith) f.k_is refl in
       let e3 : drop 4 s ≡ bytes16 a ++ drop 6 s = in16 4 6 a (omega arith) f.a_is refl in
-      e1 ∙ ap (λ (x : List ℕ). bytes16 mark_kA ++ x) (e2 ∙ ap (λ (x : List ℕ). bytes16 k ++ x) e3)
+      e1 ∙ ap (λ (x : List ℕ). bytes16 mark_ka ++ x) (e2 ∙ ap (λ (x : List ℕ). bytes16 k ++ x) e3)
 
   pub rq_exact : (at page times next : ℕ) → RqAt s at page times next → drop at s ≡ rq_bytes page ++ drop next s
   rq_exact at page times next f =
       let i : at + 6 ≤ length s = f.inside in
       let n : next ≡ at + 6 = f.behind in
-      let e1 : drop at s ≡ bytes16 mark_rQ ++ drop (at + 2) s = in16 at (at + 2) mark_rQ (omega arith) (sym f.mark) refl in
+      let e1 : drop at s ≡ bytes16 mark_rq ++ drop (at + 2) s = in16 at (at + 2) mark_rq (omega arith) (sym f.mark) refl in
       let e2 : drop (at + 2) s ≡ bytes32 page ++ drop next s = in32 (at + 2) next page (omega arith) f.page_is (omega arith) in
-      e1 ∙ ap (λ (x : List ℕ). bytes16 mark_rQ ++ x) e2
+      e1 ∙ ap (λ (x : List ℕ). bytes16 mark_rq ++ x) e2
 
   pub rr_exact : (at page times next : ℕ) → RrAt s at page times next → drop at s ≡ rr_bytes page times ++ drop next s
   rr_exact at page times next f =
       let i : at + 8 ≤ length s = f.inside in
       let n : next ≡ at + 8 = f.behind in
-      let e1 : drop at s ≡ bytes16 mark_rR ++ drop (at + 2) s = in16 at (at + 2) mark_rR (omega arith) (sym f.mark) refl in
+      let e1 : drop at s ≡ bytes16 mark_rr ++ drop (at + 2) s = in16 at (at + 2) mark_rr (omega arith) (sym f.mark) refl in
       let e2 : drop (at + 2) s ≡ bytes32 page ++ drop (at + 6) s = in32 (at + 2) (at + 6) page (omega arith) f.page_is (omega arith) in
       let e3 : drop (at + 6) s ≡ bytes16 times ++ drop next s = in16 (at + 6) next times (omega arith) f.times_is (omega arith) in
-      e1 ∙ ap (λ (x : List ℕ). bytes16 mark_rR ++ x) (e2 ∙ ap (λ (x : List ℕ). bytes32 page ++ x) e3)
+      e1 ∙ ap (λ (x : List ℕ). bytes16 mark_rr ++ x) (e2 ∙ ap (λ (x : List ℕ). bytes32 page ++ x) e3)
 
   pub pf_exact : (at t page next : ℕ) → PfAt s at t page next → drop at s ≡ pf_bytes t page ++ drop next s
   pf_exact at t page next f =
       let i : at + 10 ≤ length s = f.inside in
       let n : next ≡ at + 10 = f.behind in
-      let e1 : drop at s ≡ bytes16 mark_pF ++ drop (at + 2) s = in16 at (at + 2) mark_pF (omega arith) (sym f.mark) refl in
+      let e1 : drop at s ≡ bytes16 mark_pf ++ drop (at + 2) s = in16 at (at + 2) mark_pf (omega arith) (sym f.mark) refl in
       let e2 : drop (at + 2) s ≡ bytes32 t ++ drop (at + 6) s = in32 (at + 2) (at + 6) t (omega arith) f.t_is (omega arith) in
       let e3 : drop (at + 6) s ≡ bytes32 page ++ drop next s = in32 (at + 6) next page (omega arith) f.page_is (omega arith) in
-      e1 ∙ ap (λ (x : List ℕ). bytes16 mark_pF ++ x) (e2 ∙ ap (λ (x : List ℕ). bytes32 t ++ x) e3)
+      e1 ∙ ap (λ (x : List ℕ). bytes16 mark_pf ++ x) (e2 ∙ ap (λ (x : List ℕ). bytes32 t ++ x) e3)
 
   pub ev_exact : (bound at t n from next : ℕ) → EvAt bound s at t n from next
       → drop at s ≡ ev_bytes t (nums32 n (drop from s)) ++ drop next s
@@ -88,14 +88,14 @@ module _ (s : List ℕ) (h : Bytes s) where
       let i : at + 8 + 4 * n ≤ length s = f.inside in
       let b : next ≡ at + 8 + 4 * n = f.behind in
       let p : from ≡ at + 8 = f.pages in
-      let e1 : drop at s ≡ bytes16 mark_eV ++ drop (at + 2) s = in16 at (at + 2) mark_eV (omega arith) (sym f.mark) refl in
+      let e1 : drop at s ≡ bytes16 mark_ev ++ drop (at + 2) s = in16 at (at + 2) mark_ev (omega arith) (sym f.mark) refl in
       let e2 : drop (at + 2) s ≡ bytes32 t ++ drop (at + 6) s = in32 (at + 2) (at + 6) t (omega arith) f.t_is (omega arith) in
       let e3 : drop (at + 6) s ≡ bytes16 (length (nums32 n (drop from s))) ++ drop from s
       = in16 (at + 6) from (length (nums32 n (drop from s))) (omega arith) (length_nums32 n (drop from s) ∙ f.n_is) (omega arith) in
       let q : from + 4 * n ≡ next = omega arith in
       let e4 : drop from s ≡ all_bytes32 (nums32 n (drop from s)) ++ drop next s
       = at_all from n (omega arith) ∙ ap (λ (m : ℕ). all_bytes32 (nums32 n (drop from s)) ++ drop m s) q in
-      e1 ∙ ap (λ (x : List ℕ). bytes16 mark_eV ++ x) (e2 ∙ ap (λ (x : List ℕ). bytes32 t ++ x)
+      e1 ∙ ap (λ (x : List ℕ). bytes16 mark_ev ++ x) (e2 ∙ ap (λ (x : List ℕ). bytes32 t ++ x)
       (e3 ∙ ap (λ (x : List ℕ). bytes16 (length (nums32 n (drop from s))) ++ x) e4))
 
 -- ---- records one behind the other

@@ -13,7 +13,7 @@ use Rattle.lists.specs.Choice.{pick, ◌or◌}
 use Rattle.paging.specs.Refusals.{sizes_refusal}
 use Rattle.wire.specs.Numbers.{num16, num32}
 use Rattle.records.specs.Bytes.{ev_length}
-use Rattle.records.specs.Marks.{Mark, KA, RQ, RR, EV, PF, bad, mark_of, mark_at, mark_kA, mark_rQ, mark_rR, mark_eV, mark_pF}
+use Rattle.records.specs.Marks.{Mark, KA, RQ, RR, EV, PF, bad, mark_of, mark_at, mark_ka, mark_rq, mark_rr, mark_ev, mark_pf}
 use Rattle.reading.specs.Reading.{Answer, refused, ended, sizes, request, bundle, fetch, unless, ka_read, rq_read, rr_read, request_read, ev_read, pf_read, entry_read, count_refused}
 use Rattle.reading.specs.Reading.{read_trace, read_schedule}
 
@@ -23,7 +23,7 @@ pub record KaAt (s : List ℕ) (at k a next : ℕ) : Type 0 where
   pub start : at ≡ 0
   pub behind : next ≡ 6
   pub inside : 6 ≤ length s
-  pub mark : num16 s ≡ mark_kA
+  pub mark : num16 s ≡ mark_ka
   pub k_is : k ≡ num16 (drop 2 s)
   pub a_is : a ≡ num16 (drop 4 s)
   pub right : sizes_refusal k a 0 ≡ 0
@@ -31,14 +31,14 @@ pub record KaAt (s : List ℕ) (at k a next : ℕ) : Type 0 where
 pub record RqAt (s : List ℕ) (at page times next : ℕ) : Type 0 where
   pub behind : next ≡ at + 6
   pub inside : at + 6 ≤ length s
-  pub mark : num16 (drop at s) ≡ mark_rQ
+  pub mark : num16 (drop at s) ≡ mark_rq
   pub page_is : page ≡ num32 (drop (at + 2) s)
   pub once : times ≡ 1
 
 pub record RrAt (s : List ℕ) (at page times next : ℕ) : Type 0 where
   pub behind : next ≡ at + 8
   pub inside : at + 8 ≤ length s
-  pub mark : num16 (drop at s) ≡ mark_rR
+  pub mark : num16 (drop at s) ≡ mark_rr
   pub page_is : page ≡ num32 (drop (at + 2) s)
   pub times_is : times ≡ num16 (drop (at + 6) s)
 
@@ -56,7 +56,7 @@ pub record EvAt (bound : ℕ) (s : List ℕ) (at t n from next : ℕ) : Type 0 w
   pub pages : from ≡ at + 8
   pub behind : next ≡ at + 8 + 4 * n
   pub inside : at + 8 + 4 * n ≤ length s
-  pub mark : num16 (drop at s) ≡ mark_eV
+  pub mark : num16 (drop at s) ≡ mark_ev
   pub t_is : t ≡ num32 (drop (at + 2) s)
   pub n_is : n ≡ num16 (drop (at + 6) s)
   pub some : 0 < n
@@ -67,7 +67,7 @@ pub record PfAt (s : List ℕ) (at t page next : ℕ) : Type 0 where
   pub start : 0 < at
   pub behind : next ≡ at + 10
   pub inside : at + 10 ≤ length s
-  pub mark : num16 (drop at s) ≡ mark_pF
+  pub mark : num16 (drop at s) ≡ mark_pf
   pub t_is : t ≡ num32 (drop (at + 2) s)
   pub page_is : page ≡ num32 (drop (at + 6) s)
 
@@ -104,22 +104,22 @@ number : (n : ℕ) → suc n ≡ 0 → ⊥
 number n e = omega arith
 
 MarkFacts : List ℕ → Mark → Type 0
-MarkFacts b KA = num16 b ≡ mark_kA
-MarkFacts b RQ = num16 b ≡ mark_rQ
-MarkFacts b RR = num16 b ≡ mark_rR
-MarkFacts b EV = num16 b ≡ mark_eV
-MarkFacts b PF = num16 b ≡ mark_pF
+MarkFacts b KA = num16 b ≡ mark_ka
+MarkFacts b RQ = num16 b ≡ mark_rq
+MarkFacts b RR = num16 b ≡ mark_rr
+MarkFacts b EV = num16 b ≡ mark_ev
+MarkFacts b PF = num16 b ≡ mark_pf
 MarkFacts b (bad n) = n ≡ 0 → ⊥
 
 mark_facts : (b : List ℕ) → MarkFacts b (mark_at b)
 unfolding mark_at mark_of MarkFacts
 mark_facts b =
     by (MarkFacts b) (ltb (length b) 2) _ _ (λ e. number 4)
-    (λ e. by (MarkFacts b) (eqb (num16 b) mark_kA) _ _ (eqb-true (num16 b) mark_kA)
-    (λ e. by (MarkFacts b) (eqb (num16 b) mark_rQ) _ _ (eqb-true (num16 b) mark_rQ)
-    (λ e. by (MarkFacts b) (eqb (num16 b) mark_rR) _ _ (eqb-true (num16 b) mark_rR)
-    (λ e. by (MarkFacts b) (eqb (num16 b) mark_eV) _ _ (eqb-true (num16 b) mark_eV)
-    (λ e. by (MarkFacts b) (eqb (num16 b) mark_pF) _ _ (eqb-true (num16 b) mark_pF) (λ e. number 3))))))
+    (λ e. by (MarkFacts b) (eqb (num16 b) mark_ka) _ _ (eqb-true (num16 b) mark_ka)
+    (λ e. by (MarkFacts b) (eqb (num16 b) mark_rq) _ _ (eqb-true (num16 b) mark_rq)
+    (λ e. by (MarkFacts b) (eqb (num16 b) mark_rr) _ _ (eqb-true (num16 b) mark_rr)
+    (λ e. by (MarkFacts b) (eqb (num16 b) mark_ev) _ _ (eqb-true (num16 b) mark_ev)
+    (λ e. by (MarkFacts b) (eqb (num16 b) mark_pf) _ _ (eqb-true (num16 b) mark_pf) (λ e. number 3))))))
 
 -- ---- KA: the same for both readers, whose facts P has
 
@@ -158,7 +158,7 @@ reader_facts P s at x no_number taken end later =
 -- ---- RQ and RR
 
 module _ (s : List ℕ) (at : ℕ) (start : 0 < at) (here : at ≤ length s) where
-  rq_facts : num16 (drop at s) ≡ mark_rQ → TraceFacts s at (rq_read (drop at s) at)
+  rq_facts : num16 (drop at s) ≡ mark_rq → TraceFacts s at (rq_read (drop at s) at)
   unfolding rq_read
   rq_facts f =
       by (TraceFacts s at) (ltb (length (drop at s)) 6) _ _ (λ e. number 4)
@@ -173,7 +173,7 @@ module _ (s : List ℕ) (at : ℕ) (start : 0 < at) (here : at ≤ length s) whe
         form = inl (record { behind = refl; inside = i; mark = f; page_is = ap num32 (drop-drop 2 at s); once = refl });
       })
 
-  rr_facts : num16 (drop at s) ≡ mark_rR → TraceFacts s at (rr_read (drop at s) at)
+  rr_facts : num16 (drop at s) ≡ mark_rr → TraceFacts s at (rr_read (drop at s) at)
   unfolding rr_read
   rr_facts f =
       by (TraceFacts s at) (ltb (length (drop at s)) 8) _ _ (λ e. number 4)
@@ -217,7 +217,7 @@ module _ (s : List ℕ) (at : ℕ) (start : 0 < at) (here : at ≤ length s) whe
       let z : n ≡ 0 → ⊥ = eqb-false n 0 p.0 in
       (omega arith, (ltb-false bound n q.0, ltb-false 256 n q.1))
 
-  ev_facts : (bound : ℕ) → num16 (drop at s) ≡ mark_eV → ScheduleFacts bound s at (ev_read bound (drop at s) at)
+  ev_facts : (bound : ℕ) → num16 (drop at s) ≡ mark_ev → ScheduleFacts bound s at (ev_read bound (drop at s) at)
   unfolding ev_read
   ev_facts bound f =
       by (ScheduleFacts bound s at) (ltb (length (drop at s)) 8) _ _ (λ e. number 4)
@@ -240,7 +240,7 @@ module _ (s : List ℕ) (at : ℕ) (start : 0 < at) (here : at ≤ length s) whe
         most = q.1.1;
       })))
 
-  pf_facts : (bound : ℕ) → num16 (drop at s) ≡ mark_pF → ScheduleFacts bound s at (pf_read (drop at s) at)
+  pf_facts : (bound : ℕ) → num16 (drop at s) ≡ mark_pf → ScheduleFacts bound s at (pf_read (drop at s) at)
   unfolding pf_read
   pf_facts bound f =
       by (ScheduleFacts bound s at) (ltb (length (drop at s)) 10) _ _ (λ e. number 4)

@@ -12,7 +12,7 @@ use Rattle.lists.specs.Choice.{pick, ◌or◌}
 use Rattle.paging.specs.Refusals.{sizes_refusal}
 use Rattle.wire.specs.Numbers.{num16}
 use Rattle.records.specs.Bytes.{ev_length}
-use Rattle.records.specs.Marks.{Mark, KA, RQ, RR, EV, PF, bad, mark_of, mark_at, mark_kA, mark_rQ, mark_rR, mark_eV, mark_pF}
+use Rattle.records.specs.Marks.{Mark, KA, RQ, RR, EV, PF, bad, mark_of, mark_at, mark_ka, mark_rq, mark_rr, mark_ev, mark_pf}
 use Rattle.reading.specs.Files.{File, onward, walk, pages_in, requests_from, entries_in, entries_from}
 use Rattle.reading.specs.Reading.{Answer, refused, ended, sizes, request, bundle, fetch, unless, ka_read, rq_read, rr_read, request_read, count_refused, ev_read, pf_read, entry_read}
 use Rattle.reading.specs.Reading.{read_trace, read_schedule}
@@ -52,11 +52,11 @@ mark_low : (b : List ℕ) → LowMark (mark_at b)
 unfolding mark_at mark_of
 mark_low b =
     either LowMark (ltb (length b) 2) (bad 5) _ (omega arith)
-    (either LowMark (eqb (num16 b) mark_kA) KA _ tt
-    (either LowMark (eqb (num16 b) mark_rQ) RQ _ tt
-    (either LowMark (eqb (num16 b) mark_rR) RR _ tt
-    (either LowMark (eqb (num16 b) mark_eV) EV _ tt
-    (either LowMark (eqb (num16 b) mark_pF) PF (bad 4) tt (omega arith))))))
+    (either LowMark (eqb (num16 b) mark_ka) KA _ tt
+    (either LowMark (eqb (num16 b) mark_rq) RQ _ tt
+    (either LowMark (eqb (num16 b) mark_rr) RR _ tt
+    (either LowMark (eqb (num16 b) mark_ev) EV _ tt
+    (either LowMark (eqb (num16 b) mark_pf) PF (bad 4) tt (omega arith))))))
 
 sizes_low : (k a : ℕ) → sizes_refusal k a 0 ≤ 6
 unfolding sizes_refusal

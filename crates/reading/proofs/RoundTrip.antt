@@ -14,7 +14,7 @@ use Rattle.wire.specs.Numbers.{num16, num32, bytes16, bytes32, all_bytes32, nums
 use Rattle.wire.proofs.Numbers.{num16_bytes16, num32_bytes32, nums32_all_bytes32, length_all_bytes32}
 use Rattle.records.specs.Bytes.{ka_bytes, rq_bytes, rr_bytes, ev_bytes, pf_bytes, entry_bytes, joined, TraceEntry, rq, rr, trace_entry_bytes, trace_bytes, all_requests_of, RunsWritable}
 use Rattle.records.specs.Bytes.{TraceFileOf, schedule_bytes, ev_length, Writable, AllWritable}
-use Rattle.records.specs.Marks.{KA, RQ, RR, EV, PF, mark_of, mark_at, mark_kA, mark_rQ, mark_rR, mark_eV, mark_pF}
+use Rattle.records.specs.Marks.{KA, RQ, RR, EV, PF, mark_of, mark_at, mark_ka, mark_rq, mark_rr, mark_ev, mark_pf}
 use Rattle.records.proofs.Lengths.{length_ev_bytes}
 use Rattle.reading.specs.Files.{File, before, requests_from, entries_from, ReadsAsTrace, ReadsAsSchedule}
 use Rattle.reading.specs.Reading.{ended, sizes, request, bundle, fetch, ka_read, request_read, entry_read, count_refused, read_trace, read_schedule}
@@ -31,7 +31,7 @@ marked m r = rw (le-ltb (length (bytes16 m ++ r)) 2 (omega arith))
 ka_here : (k a : ℕ) (rest : List ℕ) → sizes_refusal k a 0 ≡ 0 → sizes k a 6 ≡ ka_read (mark_at (ka_bytes k a ++ rest)) (ka_bytes k a ++ rest)
 unfolding mark_of
 ka_here k a rest z =
-    let e : mark_at (ka_bytes k a ++ rest) ≡ KA = marked mark_kA (bytes16 k ++ (bytes16 a ++ rest)) in
+    let e : mark_at (ka_bytes k a ++ rest) ≡ KA = marked mark_ka (bytes16 k ++ (bytes16 a ++ rest)) in
     let ek : k ≡ num16 (bytes16 k ++ (bytes16 a ++ rest)) = sym (num16_bytes16 k (bytes16 a ++ rest)) in
     let ea : a ≡ num16 (bytes16 a ++ rest) = sym (num16_bytes16 a rest) in
     rw e (ka_taken (ka_bytes k a ++ rest) k a (sizes_refusal k a 0) (omega arith) ek ea refl z)
@@ -60,7 +60,7 @@ module _ (pre : List ℕ) (some : 0 < length pre) where
   trace_rq page rest =
       let l : length (pre ++ (rq_bytes page ++ rest)) ≡ length pre + length (rq_bytes page ++ rest) = length-append pre (rq_bytes page ++ rest) in
       let off : length pre ≡ length (pre ++ (rq_bytes page ++ rest)) → ⊥ = λ e. omega arith in
-      let e : mark_at (drop (length pre) (pre ++ (rq_bytes page ++ rest))) ≡ RQ = marked_here mark_rQ (bytes32 page ++ rest) in
+      let e : mark_at (drop (length pre) (pre ++ (rq_bytes page ++ rest))) ≡ RQ = marked_here mark_rq (bytes32 page ++ rest) in
       let p : page ≡ num32 (drop (length pre + 2) (pre ++ (rq_bytes page ++ rest)))
       = sym (ap num32 (drop-append-add pre (rq_bytes page ++ rest) 2) ∙ num32_bytes32 page rest) in
       let q : request page 1 (length pre + 6)
@@ -74,7 +74,7 @@ module _ (pre : List ℕ) (some : 0 < length pre) where
   trace_rr page times rest h =
       let l : length (pre ++ (rr_bytes page times ++ rest)) ≡ length pre + length (rr_bytes page times ++ rest) = length-append pre (rr_bytes page times ++ rest) in
       let off : length pre ≡ length (pre ++ (rr_bytes page times ++ rest)) → ⊥ = λ e. omega arith in
-      let e : mark_at (drop (length pre) (pre ++ (rr_bytes page times ++ rest))) ≡ RR = marked_here mark_rR (bytes32 page ++ (bytes16 times ++ rest)) in
+      let e : mark_at (drop (length pre) (pre ++ (rr_bytes page times ++ rest))) ≡ RR = marked_here mark_rr (bytes32 page ++ (bytes16 times ++ rest)) in
       let p : page ≡ num32 (drop (length pre + 2) (pre ++ (rr_bytes page times ++ rest)))
       = sym (ap num32 (drop-append-add pre (rr_bytes page times ++ rest) 2) ∙ num32_bytes32 page (bytes16 times ++ rest)) in
       let n : times ≡ num16 (drop (length pre + 6) (pre ++ (rr_bytes page times ++ rest)))
@@ -90,7 +90,7 @@ module _ (pre : List ℕ) (some : 0 < length pre) where
   schedule_pf bound t page rest =
       let l : length (pre ++ (pf_bytes t page ++ rest)) ≡ length pre + length (pf_bytes t page ++ rest) = length-append pre (pf_bytes t page ++ rest) in
       let off : length pre ≡ length (pre ++ (pf_bytes t page ++ rest)) → ⊥ = λ e. omega arith in
-      let e : mark_at (drop (length pre) (pre ++ (pf_bytes t page ++ rest))) ≡ PF = marked_here mark_pF (bytes32 t ++ (bytes32 page ++ rest)) in
+      let e : mark_at (drop (length pre) (pre ++ (pf_bytes t page ++ rest))) ≡ PF = marked_here mark_pf (bytes32 t ++ (bytes32 page ++ rest)) in
       let et : t ≡ num32 (drop (length pre + 2) (pre ++ (pf_bytes t page ++ rest)))
       = sym (ap num32 (drop-append-add pre (pf_bytes t page ++ rest) 2) ∙ num32_bytes32 t (bytes32 page ++ rest)) in
       let ep : page ≡ num32 (drop (length pre + 6) (pre ++ (pf_bytes t page ++ rest)))
@@ -110,7 +110,7 @@ module _ (pre : List ℕ) (some : 0 < length pre) where
       let n : length (all_bytes32 pages) ≡ 4 * length pages = length_all_bytes32 pages in
       let off : length pre ≡ length (pre ++ (ev_bytes t pages ++ rest)) → ⊥ = λ e. omega arith in
       let e : mark_at (drop (length pre) (pre ++ (ev_bytes t pages ++ rest))) ≡ EV
-      = marked_here mark_eV (bytes32 t ++ (bytes16 (length pages) ++ (all_bytes32 pages ++ rest))) in
+      = marked_here mark_ev (bytes32 t ++ (bytes16 (length pages) ++ (all_bytes32 pages ++ rest))) in
       let et : t ≡ num32 (drop (length pre + 2) (pre ++ (ev_bytes t pages ++ rest)))
       = sym (ap num32 (drop-append-add pre (ev_bytes t pages ++ rest) 2) ∙ num32_bytes32 t (bytes16 (length pages) ++ (all_bytes32 pages ++ rest))) in
       let en : length pages ≡ num16 (drop (length pre + 6) (pre ++ (ev_bytes t pages ++ rest)))

@@ -2,8 +2,8 @@
 use Prim.Native.Nat.{ℕ}
 use mathlib.Core.Path.{◌≡◌}
 use borrow.Author.Tests.{ne_eqb}
-use Rattle.records.specs.Marks.{bad, mark_of, mark_kA, mark_rQ, mark_rR, mark_eV, mark_pF}
+use Rattle.records.specs.Marks.{bad, mark_of, mark_ka, mark_rq, mark_rr, mark_ev, mark_pf}
 
-pub mark_other : (m : ℕ) → (m ≡ mark_kA → ⊥) → (m ≡ mark_rQ → ⊥) → (m ≡ mark_rR → ⊥) → (m ≡ mark_eV → ⊥) → (m ≡ mark_pF → ⊥) → bad 4 ≡ mark_of m
+pub mark_other : (m : ℕ) → (m ≡ mark_ka → ⊥) → (m ≡ mark_rq → ⊥) → (m ≡ mark_rr → ⊥) → (m ≡ mark_ev → ⊥) → (m ≡ mark_pf → ⊥) → bad 4 ≡ mark_of m
 unfolding mark_of
-mark_other m ka rq rr ev pf = rw (ne_eqb m mark_kA ka, ne_eqb m mark_rQ rq, ne_eqb m mark_rR rr, ne_eqb m mark_eV ev, ne_eqb m mark_pF pf)
+mark_other m ka rq rr ev pf = rw (ne_eqb m mark_ka ka, ne_eqb m mark_rq rq, ne_eqb m mark_rr rr, ne_eqb m mark_ev ev, ne_eqb m mark_pf pf)

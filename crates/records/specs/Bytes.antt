@@ -5,22 +5,22 @@ use Rattle.lists.specs.Choice.{pick}
 use Rattle.paging.specs.Refusals.{largest_k}
 use Rattle.paging.specs.Schedule.{Entry, ev, pf}
 use Rattle.wire.specs.Numbers.{bytes16, bytes32, all_bytes32}
-use Rattle.records.specs.Marks.{mark_kA, mark_rQ, mark_rR, mark_eV, mark_pF}
+use Rattle.records.specs.Marks.{mark_ka, mark_rq, mark_rr, mark_ev, mark_pf}
 
 abbrev pub ka_bytes : ℕ → ℕ → List ℕ
-ka_bytes k a = bytes16 mark_kA ++ (bytes16 k ++ bytes16 a)
+ka_bytes k a = bytes16 mark_ka ++ (bytes16 k ++ bytes16 a)
 
 abbrev pub rq_bytes : ℕ → List ℕ
-rq_bytes page = bytes16 mark_rQ ++ bytes32 page
+rq_bytes page = bytes16 mark_rq ++ bytes32 page
 
 abbrev pub rr_bytes : ℕ → ℕ → List ℕ
-rr_bytes page times = bytes16 mark_rR ++ (bytes32 page ++ bytes16 times)
+rr_bytes page times = bytes16 mark_rr ++ (bytes32 page ++ bytes16 times)
 
 abbrev pub ev_bytes : ℕ → List ℕ → List ℕ
-ev_bytes t pages = bytes16 mark_eV ++ (bytes32 t ++ (bytes16 (length pages) ++ all_bytes32 pages))
+ev_bytes t pages = bytes16 mark_ev ++ (bytes32 t ++ (bytes16 (length pages) ++ all_bytes32 pages))
 
 abbrev pub pf_bytes : ℕ → ℕ → List ℕ
-pf_bytes t page = bytes16 mark_pF ++ (bytes32 t ++ bytes32 page)
+pf_bytes t page = bytes16 mark_pf ++ (bytes32 t ++ bytes32 page)
 
 abbrev pub entry_bytes : Entry → List ℕ
 entry_bytes (ev t pages) = ev_bytes t pages

@@ -10,7 +10,7 @@ use lib.Seq.{drop-append_seam}
 use Rattle.lists.proofs.Choice.{cases, tests}
 use Rattle.wire.specs.Numbers.{bytes16, bytes32}
 use Rattle.records.specs.Bytes.{rq_bytes, rr_bytes, joined}
-use Rattle.records.specs.Marks.{RQ, RR, mark_of, mark_at, mark_rQ, mark_rR}
+use Rattle.records.specs.Marks.{RQ, RR, mark_of, mark_at, mark_rq, mark_rr}
 use Rattle.reading.specs.Files.{File, before, requests_from}
 use Rattle.reading.specs.Reading.{Answer, refused, ended, sizes, request, bundle, fetch, ka_read, read_trace}
 use Rattle.reading.proofs.Facts.{trace_says}
@@ -119,14 +119,14 @@ module _ (page : ℕ) (rest : List ℕ) where
   run_first : (n limit : ℕ) → trace_file limit (rr_bytes page n ++ rest) ≡ damaged 4
   unfolding trace_file mark_of ka_read
   run_first n limit =
-      let e : mark_at (rr_bytes page n ++ rest) ≡ RR = marked mark_rR (bytes32 page ++ (bytes16 n ++ rest)) in
+      let e : mark_at (rr_bytes page n ++ rest) ≡ RR = marked mark_rr (bytes32 page ++ (bytes16 n ++ rest)) in
       let no : refused 4 ≡ ka_read (mark_at (rr_bytes page n ++ rest)) (rr_bytes page n ++ rest) = rw e in
       rw (← trace_first (rr_bytes page n ++ rest) 0 refl no)
 
   single_first : (more : List ℕ) (limit : ℕ) → trace_file limit (rq_bytes page ++ more) ≡ damaged 4
   unfolding trace_file mark_of ka_read
   single_first more limit =
-      let e : mark_at (rq_bytes page ++ more) ≡ RQ = marked mark_rQ (bytes32 page ++ more) in
+      let e : mark_at (rq_bytes page ++ more) ≡ RQ = marked mark_rq (bytes32 page ++ more) in
       let no : refused 4 ≡ ka_read (mark_at (rq_bytes page ++ more)) (rq_bytes page ++ more) = rw e in
       rw (← trace_first (rq_bytes page ++ more) 0 refl no)
 

@@ -5,7 +5,7 @@ use mathlib.Core.Path.{◌≡◌, ◌∙◌, sym}
 use lib.ListN.{length}
 use Rattle.wire.specs.Numbers.{bytes16, bytes32, all_bytes32}
 use Rattle.records.specs.Bytes.{ev_bytes, ev_length}
-use Rattle.records.specs.Marks.{mark_eV}
+use Rattle.records.specs.Marks.{mark_ev}
 use Rattle.records.proofs.Lengths.{ev_length_is, length_ev_bytes}
 use Rattle.records.proofs.Writing.{put_barred, put_short, put_whole, stored4, pages_none, pages_many, pages_fine}
 use Rattle.records.proofs.put.ev.Goals as goal
@@ -133,7 +133,7 @@ returns c =
     if1.false
     if2.false)
     (e ∙ sym (length_ev_bytes a.t a.pages.now)) l
-    (stored4 a.rest.now (bytes16 mark_eV) (bytes32 a.t) (bytes16 (length a.pages.now)) (all_bytes32 a.pages.now)
+    (stored4 a.rest.now (bytes16 mark_ev) (bytes32 a.t) (bytes16 (length a.pages.now)) (all_bytes32 a.pages.now)
     write16.new.s
     write32.new.s
     write162.new.s list.new.rest

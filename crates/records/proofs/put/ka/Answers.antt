@@ -4,7 +4,7 @@ use mathlib.Core.Bool.{false}
 use mathlib.Core.Path.{refl}
 use Rattle.wire.specs.Numbers.{bytes16}
 use Rattle.records.specs.Bytes.{ka_bytes}
-use Rattle.records.specs.Marks.{mark_kA}
+use Rattle.records.specs.Marks.{mark_ka}
 use Rattle.records.proofs.Writing.{put_short, put_whole, stored3}
 use Rattle.records.proofs.put.ka.Goals as goal
 
@@ -26,7 +26,7 @@ returns c =
     let write163 = c.write16-3 in
     put_whole (ka_bytes k a) rest _ _ false refl refl
     if1.false
-    (stored3 rest (bytes16 mark_kA) (bytes16 k) (bytes16 a)
+    (stored3 rest (bytes16 mark_ka) (bytes16 k) (bytes16 a)
     write16.new.s
     write162.new.s write163.new.s (omega arith)
     write16.ensures

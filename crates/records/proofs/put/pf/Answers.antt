@@ -4,7 +4,7 @@ use mathlib.Core.Bool.{false}
 use mathlib.Core.Path.{refl}
 use Rattle.wire.specs.Numbers.{bytes16, bytes32}
 use Rattle.records.specs.Bytes.{pf_bytes}
-use Rattle.records.specs.Marks.{mark_pF}
+use Rattle.records.specs.Marks.{mark_pf}
 use Rattle.records.proofs.Writing.{put_short, put_whole, stored3}
 use Rattle.records.proofs.put.pf.Goals as goal
 
@@ -26,7 +26,7 @@ returns c =
     let write322 = c.write32-2 in
     put_whole (pf_bytes t page) rest _ _ false refl refl
     if1.false
-    (stored3 rest (bytes16 mark_pF) (bytes32 t) (bytes32 page)
+    (stored3 rest (bytes16 mark_pf) (bytes32 t) (bytes32 page)
     write16.new.s
     write32.new.s write322.new.s (omega arith)
     write16.ensures
