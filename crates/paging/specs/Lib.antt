@@ -1,4 +1,5 @@
 pub mod Refusals
+pub mod Numbers
 pub mod Schedule
 pub mod Policy
 pub mod Front

@@ -3,7 +3,14 @@
 #![tactic(auto)]
 
 ghost use Rattle.std.specs.Prelude.{◌≡◌};
+ghost use Rattle.paging.specs.Numbers.{refusal_of};
 ghost use Rattle.paging.specs.Refusals.{sizes_refusal, trace_refusal};
+
+mod outcomes;
+mod reasons;
+
+pub use crate::outcomes::Outcome;
+pub use crate::reasons::Refusal;
 
 // The largest number of a counter, which has 32 bits. The records that count have it as a constant of their own.
 pub const COUNTER_MAX: u32 = 4294967295;
@@ -29,6 +36,34 @@ impl Sizes {
 
     // The most requests of a trace, as a lent list or as a file.
     pub const TRACE_MAX: usize = 65536;
+
+    // 1 where k is 0 or above 256, 2 where a is 0 or above k.
+    #[tactic(auto, using(crate::proofs::Refusals::sizes_rules))]
+    pub fn check(self) -> Result<(), Refusal>
+        ensures { refusal_of result ≡ sizes_refusal self.k self.a 0 }
+    {
+        let k = self.k;
+        let a = self.a;
+        if k == 0 || k > Sizes::K_MAX {
+            return Err(Refusal::BufferSize);
+        }
+        if a == 0 || a > k {
+            return Err(Refusal::BundleSize);
+        }
+        Ok(())
+    }
+
+    // The same for a call over a lent trace: then 3 where it has too many requests.
+    #[tactic(auto, using(crate::proofs::Refusals::trace_rules))]
+    pub fn check_trace(self, trace: &[u32]) -> Result<(), Refusal>
+        ensures { refusal_of result ≡ trace_refusal self.k self.a trace.now 0 }
+    {
+        self.check()?;
+        if trace.len() > Sizes::TRACE_MAX {
+            return Err(Refusal::TraceTooLong);
+        }
+        Ok(())
+    }
 
     // 1 where k is 0 or above 256, 2 where a is 0 or above k, else 0.
     #[tactic(auto, using(crate::proofs::Refusals::sizes_rules))]
