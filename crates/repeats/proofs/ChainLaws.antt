@@ -7,15 +7,14 @@ use mathlib.Core.List.{List, [], ◌∷◌, ◌++◌}
 use mathlib.Core.Path.{◌≡◌, refl, sym, ap, ◌∙◌}
 use lib.Bits.{bit_and}
 use lib.Dec.{eqb}
-use lib.ListN.{length, take, get_or, set, replicate, length-replicate}
-use lib.Seq.{take-suc, take_all, get_or-set_same, get_or-set_other}
+use lib.ListN.{length, take, get_or, set}
+use lib.Seq.{take-suc, get_or-set_same, get_or-set_other}
 use borrow.Author.Tests.{eq-eqb, ne_eqb, eqb-true, eqb-false}
 use Rattle.lists.specs.Choice.{◌or◌, ◌and◌}
 use Rattle.lists.specs.Pages.{mem, distinct}
 use Rattle.lists.proofs.Choice.{cases, split, clash, or_split, eqb_self}
 use Rattle.lists.proofs.Leaves.{mem_append, distinct_snoc, twice_at}
-use Rattle.lists.proofs.Parts.{zeros}
-use Rattle.repeats.specs.Chains.{chain_has, in_chain, Linked, Unlinked}
+use Rattle.repeats.specs.Chains.{chain_has, in_chain}
 use Rattle.repeats.specs.Slots.{slot_of}
 use Rattle.repeats.proofs.FreshLaws.{slot_le}
 
@@ -119,21 +118,6 @@ pub record Threaded (mask : ℕ) (pages heads before : List ℕ) (i : ℕ) : Typ
   pub falls : (j : ℕ) → j < i → get_or before j 0 ≤ j
   pub found : (q : ℕ) → mem q (take i pages) ≡ true → in_chain pages before (get_or heads (slot_of mask q) 0) q ≡ true
 
-pub threaded_none : (mask : ℕ) (pages heads before : List ℕ) → ((c : ℕ) → get_or heads c 0 ≡ 0) → Threaded mask pages heads before 0
-threaded_none mask pages heads before z =
-    record {
-      once = refl;
-      tops = λ c. let e = z c in omega arith;
-      falls = λ j h. absurd (omega arith);
-      found = λ q e. clash false e refl;
-    }
-
-pub threaded_linked : (mask : ℕ) (pages heads before : List ℕ) (i c : ℕ) → i ≤ length pages → i ≤ length before → Threaded mask pages heads before i
-    → Linked (get_or heads c 0) pages before
-threaded_linked mask pages heads before i c h l t =
-    let top = t.tops c in
-    record { within = omega arith; linked = omega arith; falls = λ j g. t.falls j (omega arith) }
-
 module _ (mask : ℕ) (pages heads before : List ℕ) (i : ℕ) (h : i < length pages) (t : Threaded mask pages heads before i) where
   abbrev page : ℕ
   page = get_or pages i 0
@@ -219,17 +203,3 @@ module _ (mask : ℕ) (pages heads before : List ℕ) (i at : ℕ) (h : i < leng
   found_new m l e =
       rw a
       (threaded_more mask pages heads before i h t m l (ap (λ (x : ℕ). in_chain pages before (get_or heads x 0) (get_or pages i 0)) (sym a) ∙ e))
-
-pub threaded_all : (mask : ℕ) (pages heads before : List ℕ) (i : ℕ) → length pages ≤ i → Threaded mask pages heads before i → distinct pages ≡ true
-threaded_all mask pages heads before i h t = rw (take_all i pages h) at t.once
-
--- tables of zeros
-pub unlinked : (mask n m : ℕ) (pages : List ℕ) → mask < n → length pages ≤ m → length pages ≤ 65536
-    → Unlinked mask pages (replicate n 0) (replicate m 0)
-unlinked mask n m pages h l k =
-    record {
-      slots = rw (length-replicate {A = ℕ} n 0) h;
-      places = rw (length-replicate {A = ℕ} m 0) l;
-      limit = k;
-      none = λ c. zeros n c;
-    }

@@ -2,13 +2,13 @@
 use Prim.Native.Nat.{ℕ, ◌+◌, ◌*◌, ◌/◌, ◌≤◌, ◌<◌}
 use native.Mathlib.Numerals.{add-one}
 use native.Mathlib.Omega.{arith}
-use mathlib.Core.Bool.{true, false}
+use mathlib.Core.Bool.{Bool, true, false}
 use mathlib.Core.List.{List, [], ◌∷◌, ◌++◌}
 use mathlib.Core.Path.{◌≡◌, refl, sym, ap, ◌∙◌}
 use lib.Bits.{and_le_r}
 use lib.Dec.{eqb}
 use lib.ListN.{length, take, get_or, set}
-use lib.Seq.{take-suc, take_all, get_or-set_same, get_or-set_other}
+use lib.Seq.{take-suc, get_or-set_same, get_or-set_other}
 use borrow.Author.Tests.{eqb-true, eqb-false}
 use Rattle.lists.specs.Choice.{◌and◌, ◌or◌}
 use Rattle.lists.specs.Pages.{mem, distinct}
@@ -22,17 +22,14 @@ unfolding slot_of
 slot_le mask page = and_le_r (page * 2654435761 / 65536) mask
 
 -- the first i pages are repeat-free, and the mark of each is set
-pub record Fresh (mask : ℕ) (marks pages : List ℕ) (i : ℕ) : Type 0 where
+pub record Fresh (mask : ℕ) (marks : List Bool) (pages : List ℕ) (i : ℕ) : Type 0 where
   pub once : distinct (take i pages) ≡ true
-  pub marked : (q : ℕ) → mem q (take i pages) ≡ true → get_or marks (slot_of mask q) 0 ≡ 1
+  pub marked : (q : ℕ) → mem q (take i pages) ≡ true → get_or marks (slot_of mask q) false ≡ true
 
-pub fresh_none : (mask : ℕ) (marks pages : List ℕ) → Fresh mask marks pages 0
-fresh_none mask marks pages = record { once = refl; marked = λ q e. clash false e refl }
-
-module _ (mask : ℕ) (marks pages : List ℕ) (i : ℕ) (h : i < length pages) where
+module _ (mask : ℕ) (marks : List Bool) (pages : List ℕ) (i : ℕ) (h : i < length pages) where
   -- the next page is none of the earlier ones, and its mark is set
   fresh_more : mask < length marks → mem (get_or pages i 0) (take i pages) ≡ false → Fresh mask marks pages i
-      → Fresh mask (set marks (slot_of mask (get_or pages i 0)) 1) pages (i + 1)
+      → Fresh mask (set marks (slot_of mask (get_or pages i 0)) true) pages (i + 1)
   unfolding ◌and◌ ◌or◌
   fresh_more m n f =
       let p = get_or pages i 0 in
@@ -41,8 +38,8 @@ module _ (mask : ℕ) (marks pages : List ℕ) (i : ℕ) (h : i < length pages) 
       record {
         once = rw (more, distinct_snoc (take i pages) p, n, f.once) refl;
         marked = λ q e. cases (eqb (slot_of mask q) (slot_of mask p))
-            (λ s. rw (eqb-true (slot_of mask q) (slot_of mask p) s) (get_or-set_same marks (slot_of mask p) 1 0 b))
-            (λ s. get_or-set_other marks (slot_of mask p) (slot_of mask q) 1 0 (eqb-false (slot_of mask q) (slot_of mask p) s)
+            (λ s. rw (eqb-true (slot_of mask q) (slot_of mask p) s) (get_or-set_same marks (slot_of mask p) true false b))
+            (λ s. get_or-set_other marks (slot_of mask p) (slot_of mask q) true false (eqb-false (slot_of mask q) (slot_of mask p) s)
             ∙ f.marked q (cases (mem q (take i pages)) (λ t. t)
             (λ t. let e' = rw (more, mem_append q (take i pages) (p ∷ []), t) at e in
             cases (eqb q p)
@@ -53,16 +50,13 @@ module _ (mask : ℕ) (marks pages : List ℕ) (i : ℕ) (h : i < length pages) 
   -- the slot as the code has it
   module _ (at : ℕ) (a : at ≡ slot_of mask (get_or pages i 0)) (m : mask < length marks) (f : Fresh mask marks pages i) where
     -- an unset mark rules the page out
-    pub fresh_unmarked : get_or marks at 0 ≡ 0 → Fresh mask (set marks at 1) pages (i + 1)
+    pub fresh_unmarked : get_or marks at false ≡ false → Fresh mask (set marks at true) pages (i + 1)
     fresh_unmarked z =
         let p = get_or pages i 0 in
-        let z' : get_or marks (slot_of mask p) 0 ≡ 0 = ap (λ (x : ℕ). get_or marks x 0) (sym a) ∙ z in
+        let z' : get_or marks (slot_of mask p) false ≡ false = ap (λ (x : ℕ). get_or marks x false) (sym a) ∙ z in
         rw a
-        (fresh_more m (cases (mem p (take i pages)) (λ t. let one = f.marked p t in absurd (omega arith)) (λ t. t)) f)
+        (fresh_more m (cases (mem p (take i pages)) (λ t. clash (get_or marks (slot_of mask p) false) (f.marked p t) z') (λ t. t)) f)
 
     -- so does an exact look
-    pub fresh_looked : mem (get_or pages i 0) (take i pages) ≡ false → Fresh mask (set marks at 1) pages (i + 1)
+    pub fresh_looked : mem (get_or pages i 0) (take i pages) ≡ false → Fresh mask (set marks at true) pages (i + 1)
     fresh_looked z = rw a (fresh_more m z f)
-
-pub fresh_all : (mask : ℕ) (marks pages : List ℕ) (i : ℕ) → length pages ≤ i → Fresh mask marks pages i → distinct pages ≡ true
-fresh_all mask marks pages i h f = rw (take_all i pages h) at f.once

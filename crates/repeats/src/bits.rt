@@ -16,7 +16,7 @@ fn fold(page: u32) -> u32
 fn product(page: u32) -> u32
     ensures { (result ≡ product_of page) × (result < 2097152) }
 {
-    1048576 + (((page as u64 * 2654435769) >> 12) & 1048575) as u32
+    1048576 + (((u64::from(page) * 2654435769) >> 12) & 1048575) as u32
 }
 
 // A bit's place in its word.
@@ -38,7 +38,7 @@ fn set_bit(marks: &mut [u32], bit: u32)
     ensures { marks.new ≡ with_bit marks.old bit }
 {
     let at = (bit / 32) as usize;
-    marks[at] = marks[at] | bit_in_word(bit);
+    marks[at] |= bit_in_word(bit);
 }
 
 // Whether the page's mark is set.
@@ -46,10 +46,7 @@ pub fn marked(marks: &[u32], page: u32) -> bool
     requires { length marks.now ≡ words }
     ensures { result ≡ is_marked marks.now page }
 {
-    if is_set(marks, fold(page)) {
-        return is_set(marks, product(page));
-    }
-    false
+    is_set(marks, fold(page)) && is_set(marks, product(page))
 }
 
 // The page's mark is set.

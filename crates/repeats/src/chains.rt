@@ -1,5 +1,5 @@
 // Repeats in a list, looked for in chains: the places whose pages share a slot, from the last one on.
-ghost use Rattle.std.specs.Prelude.{◌≤◌, ◌≡◌, length};
+ghost use Rattle.std.specs.Prelude.{◌≤◌, ◌<◌, ◌≡◌, length};
 ghost use Rattle.lists.specs.Pages.{distinct};
 ghost use Rattle.repeats.specs.Chains.{in_chain, Linked, Unlinked};
 
@@ -10,6 +10,7 @@ fn in_chain(pages: &[u32], before: &[u32], start: u32, page: u32) -> bool
     requires { Linked start pages.now before.now }
     ensures { result ≡ in_chain pages.now before.now start page }
 {
+    // A loop, since each turn goes where the link before it leads.
     let mut link = start as usize;
     while link > 0 {
         let place = link - 1;
@@ -26,35 +27,24 @@ fn chained_once(pages: &[u32], heads: &mut [u32], before: &mut [u32], mask: usiz
     requires { Unlinked mask pages.now heads.old before.old }
     ensures { result ≡ distinct pages.now }
 {
-    let mut i = 0;
-    while i < pages.len() {
-        let page = pages[i];
+    for (i, &page) in pages.iter().enumerate() {
         let at = slot(page, mask);
         let last = heads[at];
         if in_chain(pages, before, last, page) {
             return false;
         }
         before[i] = last;
-        i += 1;
-        heads[at] = i as u32;
+        heads[at] = i as u32 + 1;
     }
     true
 }
 
-pub(crate) fn no_page_twice_of_4096(pages: &[u32]) -> bool
-    requires { length pages.now ≤ 4096 }
+// Whether no page stands in the list twice, with tables on the stack: of so many slots, for so many places at most.
+pub(crate) fn no_page_twice_of<const SLOTS: usize, const PLACES: usize>(pages: &[u32]) -> bool
+    requires { (0 < SLOTS) × (SLOTS ≤ 65536) × (PLACES ≤ 65536) × (length pages.now ≤ PLACES) }
     ensures { result ≡ distinct pages.now }
 {
-    let mut heads = [0u32; 16384];
-    let mut before = [0u32; 4096];
-    chained_once(pages, &mut heads, &mut before, 16383)
-}
-
-pub(crate) fn no_page_twice_of_65536(pages: &[u32]) -> bool
-    requires { length pages.now ≤ 65536 }
-    ensures { result ≡ distinct pages.now }
-{
-    let mut heads = [0u32; 65536];
-    let mut before = [0u32; 65536];
-    chained_once(pages, &mut heads, &mut before, 65535)
+    let mut heads = [0u32; SLOTS];
+    let mut before = [0u32; PLACES];
+    chained_once(pages, &mut heads, &mut before, SLOTS - 1)
 }

@@ -17,7 +17,7 @@ mod slots;
 pub fn no_page_twice_in_buffer(pages: &[u32]) -> bool
     ensures { result ≡ distinct pages.now }
 {
-    let mut marks = [0u8; 8192];
+    let mut marks = [false; 8192];
     marks::new_pages_only(pages, &mut marks, 8191)
 }
 
@@ -31,11 +31,11 @@ pub fn no_page_twice(pages: &[u32]) -> bool
         return no_page_twice_in_buffer(pages);
     }
     if n <= 4096 {
-        return chains::no_page_twice_of_4096(pages);
+        return chains::no_page_twice_of::<16384, 4096>(pages);
     }
     if n <= 65536 {
-        return chains::no_page_twice_of_65536(pages);
+        return chains::no_page_twice_of::<65536, 65536>(pages);
     }
-    let mut marks = [0u8; 65536];
+    let mut marks = [false; 65536];
     marks::new_pages_only(pages, &mut marks, 65535)
 }

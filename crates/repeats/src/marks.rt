@@ -6,22 +6,16 @@ use crate::slots::slot;
 use lists::has;
 
 // Whether no page stands in the list twice: only where a page's mark is set already, an exact look at the earlier places decides.
-pub(crate) fn new_pages_only(pages: &[u32], marks: &mut [u8], mask: usize) -> bool
+pub(crate) fn new_pages_only(pages: &[u32], marks: &mut [bool], mask: usize) -> bool
     requires { mask < length marks.old }
     ensures { result ≡ distinct pages.now }
 {
-    let mut next = 0;
-    while next < pages.len() {
-        let i = next;
-        let page = pages[i];
+    for (i, &page) in pages.iter().enumerate() {
         let at = slot(page, mask);
-        let mark = marks[at];
-        marks[at] = 1;
-        next += 1;
-        if mark != 0 {
-            if has(&pages[..i], page) {
-                return false;
-            }
+        let marked = marks[at];
+        marks[at] = true;
+        if marked && has(&pages[..i], page) {
+            return false;
         }
     }
     true

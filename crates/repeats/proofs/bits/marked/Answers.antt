@@ -12,9 +12,10 @@ returns-then-is_set c =
     marked_is marks page c.is_set-then-is_set.result (rw fold.ensures.0 at (sym is_set.ensures ∙ if1.true))
     (rw c.product.ensures.0 at c.is_set-then-is_set.ensures)
 
-pub returns : goal.returns
-returns c =
+pub returns-else-is_set : goal.returns-else-is_set
+returns-else-is_set c =
     let marks = c.args.marks.now in
     let page = c.args.page in
     let fold = c.fold in
-    not_marked marks page (rw fold.ensures.0 at (sym c.is_set.ensures ∙ c.if-is_set.false))
+    let no = c.if-is_set.false in
+    no ∙ not_marked marks page (rw fold.ensures.0 at (sym c.is_set.ensures ∙ no))
