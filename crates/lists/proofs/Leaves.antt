@@ -1,5 +1,5 @@
 -- Laws behind the operations on lent lists: the first place of a page, a list that grows at its end, writing along a list.
-use Prim.Native.Nat.{ℕ, suc, ◌+◌, ◌-◌, ◌≤◌, ◌<◌, min}
+use Prim.Native.Nat.{ℕ, suc, ◌+◌, ◌-◌, ◌≤◌, ◌<◌}
 use native.Mathlib.Nat.{add-zero}
 use native.Mathlib.Numerals.{add-one}
 use native.Mathlib.Omega.{arith}
@@ -7,13 +7,13 @@ use mathlib.Core.Bool.{Bool, true, false, not, ◌||◌}
 use mathlib.Core.List.{List, [], ◌∷◌, ◌++◌, append_assoc, append-nil}
 use mathlib.Core.Path.{◌≡◌, refl, sym, ap, ◌∙◌}
 use lib.Dec.{eqb, ltb, leb-suc-suc}
-use lib.ListN.{length, take, drop, get_or, set, replicate, length-append, length-take, length-drop, length-replicate, get_or-replicate, drop_of_length-le, take-append-drop}
-use lib.Seq.{drop-drop, drop-cons, take-suc, take_all, length-take-le, set_at, take_at, drop_at, get_or-append-add, get_or-drop}
+use lib.ListN.{length, take, drop, get_or, set, length-append, length-take, length-drop, length-replicate, drop_of_length-le, take-append-drop}
+use lib.Seq.{drop-drop, drop-cons, take-suc, take_all, length-take-le, set_at, get_or-append-add, get_or-drop}
 use mir.Val.{bool_byte}
 use borrow.Author.Tests.{eq-eqb, ne_eqb, eqb-true, lt-ltb, not-true}
 use Rattle.lists.specs.Choice.{◌and◌, ◌or◌}
 use Rattle.lists.specs.Pages.{mem, distinct, to_end}
-use Rattle.lists.specs.Places.{place, moved_to_end, first_dropped, pasted, over}
+use Rattle.lists.specs.Places.{place, moved_to_end, first_dropped, over}
 use Rattle.lists.proofs.Choice.{cases, split, clash, and_l, and_r, and_false_r, or_split, eqb_sym}
 use Rattle.lists.proofs.Pages.{without_absent}
 
@@ -140,107 +140,20 @@ over_ahead s d xs i j e hs h =
     ∙ get_or-drop i d (j - i) 0
     ∙ ap (λ (x : ℕ). get_or d x 0) (omega arith)
 
--- The page at a place moved to the end
+-- An entry moved to the end: the places from it on turned by one
 
-pub gap : (at : ℕ) → List ℕ → List ℕ
-gap at d = take at d ++ drop (suc at) d
+pub moved_by_turning : {A : Type 0} (at : ℕ) (xs ys : List A) → at < length xs
+    → ys ≡ drop 1 (take (length xs - at) (drop at xs)) ++ take 1 (take (length xs - at) (drop at xs))
+    → take at xs ++ (ys ++ drop (length xs - at) (drop at xs)) ≡ moved_to_end at xs
+moved_by_turning {A = A} at xs ys h e =
+    let n : length (drop at xs) ≡ length xs - at = length-drop at xs in
+    rw (e, take_all (length xs - at) (drop at xs) (omega arith), drop_of_length-le (drop at xs) {i = length xs - at} (omega arith), drop-drop 1 at xs, add-one at)
+    (ap (λ (l : List A). take at xs ++ l) (append-nil _) ∙ sym (append_assoc (take at xs) (drop (suc at) xs) (take 1 (drop at xs))))
 
-module _ (at : ℕ) (d : List ℕ) where
-  pub moved_none : length d ≤ at → d ≡ moved_to_end at d
-  moved_none h = rw (take_all at d h, drop_of_length-le d {i = suc at} (omega arith), drop_of_length-le d {i = at} h) (simp append-nil)
-
-  module _ (h : at < length d) where
-    pub gap_start : d ≡ over (gap at d) d at
-    unfolding over gap
-    gap_start = rw (take_at (take at d) (drop (suc at) d) at (length-take-le at d (omega arith))) (sym (take-append-drop at d))
-
-    length_gap : length (gap at d) ≡ length d - 1
-    unfolding gap
-    length_gap = simp (length-append, length-drop, length-take-le at d (omega arith)) (omega arith)
-
-    gap_at : (i : ℕ) → at ≤ i → get_or (gap at d) i 0 ≡ get_or d (i + 1) 0
-    unfolding gap
-    gap_at i g =
-        let e : i ≡ length (take at d) + (i - at) = rw (length-take-le at d (omega arith)) (omega arith) in
-        ap (λ (x : ℕ). get_or (take at d ++ drop (suc at) d) x 0) e
-        ∙ get_or-append-add (take at d) (drop (suc at) d) (i - at) 0
-        ∙ get_or-drop (suc at) d (i - at) 0
-        ∙ ap (λ (x : ℕ). get_or d x 0) (omega arith)
-
-    pub gap_turn : (xs : List ℕ) (i : ℕ) → xs ≡ over (gap at d) d i → at ≤ i → i < length d - 1
-        → set xs i (get_or xs (i + 1) 0) ≡ over (gap at d) d (i + 1)
-    gap_turn xs i e g l =
-        let n = length_gap in
-        over_stored (gap at d) d xs i _ e (omega arith) (omega arith)
-        (over_ahead (gap at d) d xs i (i + 1) e (omega arith) (omega arith) ∙ sym (gap_at i g))
-
-    pub gap_closed : (xs : List ℕ) (i : ℕ) → xs ≡ over (gap at d) d i → i ≤ length d - 1 → length d - 1 ≤ i
-        → set xs (length d - 1) (get_or d at 0) ≡ moved_to_end at d
-    unfolding over gap
-    gap_closed xs i e l m =
-        let n = length_gap in
-        let last : suc (length d - 1) ≡ length d = omega arith in
-        rw (e, take_all i (gap at d) (omega arith), drop-cons d i 0 (omega arith))
-        (set_at (gap at d) (get_or d i 0) (drop (suc i) d) (get_or d at 0) (length d - 1) n
-        ∙ rw (drop_of_length-le d {i = suc i} (omega arith), drop-cons d at 0 h) refl)
-
--- The first n dropped
-
-pub shift_turn : (n : ℕ) (d xs : List ℕ) (i : ℕ) → xs ≡ over (drop n d) d i → i < length d - n
-    → set xs i (get_or xs (i + n) 0) ≡ over (drop n d) d (i + 1)
-shift_turn n d xs i e l =
-    let m = length-drop n d in
-    over_stored (drop n d) d xs i _ e (omega arith) (omega arith)
-    (over_ahead (drop n d) d xs i (i + n) e (omega arith) (omega arith)
-    ∙ ap (λ (x : ℕ). get_or d x 0) (omega arith) ∙ sym (get_or-drop n d i 0))
-
-pub shift_done : (n left : ℕ) (d xs : List ℕ) (i : ℕ) → xs ≡ over (drop n d) d i → left ≡ length d - n → i ≤ left → left ≤ i
-    → xs ≡ drop n d ++ drop left d
-shift_done n left d xs i e l h g =
-    let same : left ≡ i = omega arith in
-    e ∙ over_is (drop n d) d i ∙ rw (take_all i (drop n d) (rw (length-drop n d) (omega arith)), same) refl
-
--- Zero in every place
-
-pub zero_turn : (d xs : List ℕ) (i : ℕ) → xs ≡ over (replicate (length d) 0) d i → i < length d
-    → set xs i 0 ≡ over (replicate (length d) 0) d (i + 1)
-zero_turn d xs i e l =
-    let n = length-replicate {A = ℕ} (length d) 0 in
-    over_stored (replicate (length d) 0) d xs i 0 e (omega arith) l (sym (get_or-replicate (length d) i 0 0 l))
-
-pub zero_done : (d xs : List ℕ) (i : ℕ) → xs ≡ over (replicate (length d) 0) d i → length d ≤ i → xs ≡ replicate (length d) 0
-zero_done d xs i e l =
-    e ∙ over_all (replicate (length d) 0) d i (rw (length-replicate {A = ℕ} (length d) 0) l) l
-
--- all of them go
-pub dropped_all : (n : ℕ) (d : List ℕ) → length d ≤ n → replicate (length d) 0 ≡ first_dropped n d
-dropped_all n d h = let e : min n (length d) ≡ length d = omega arith in rw (drop_of_length-le d h, e) refl
-
--- the places behind what was shifted become zero
-pub dropped_made : (n left : ℕ) (d s y : List ℕ) → n ≤ length d → left ≡ length d - n → s ≡ drop n d ++ drop left d
-    → y ≡ replicate (length (take (length s - left) (drop left s))) 0
-    → take left s ++ (y ++ drop (length s - left) (drop left s)) ≡ first_dropped n d
-dropped_made n left d s y h l e z =
-    let front : length (drop n d) ≡ left = length-drop n d ∙ sym l in
-    let t : take left s ≡ drop n d = rw e (take_at (drop n d) (drop left d) left front) in
-    let r : drop left s ≡ drop left d = rw e (drop_at (drop n d) (drop left d) left front) in
-    let k : length (drop left d) ≡ n = length-drop left d ∙ omega arith in
-    let m : length s - left ≡ n = rw e (simp length-append (omega arith)) in
-    let some : min n (length d) ≡ n = omega arith in
-    let y' : y ≡ replicate n 0 = rw (m, r, length-take-le n (drop left d) (omega arith)) at z in
-    rw (t, m, r, y', some, drop_of_length-le (drop left d) {i = n} (omega arith))
-    (ap (λ (x : List ℕ). drop n d ++ x) (append-nil (replicate n 0)))
-
--- Pages copied over a front
+-- Entries copied over a front
 
 pub put_done : (from to xs : List ℕ) (n i : ℕ) → xs ≡ over from to i → i ≤ n → n ≤ i → xs ≡ take n from ++ drop n to
 put_done from to xs n i e h g = let same : n ≡ i = omega arith in e ∙ over_is from to i ∙ rw same refl
-
-pub pasted_whole : (from to : List ℕ) → length from ≤ length to → take (length from) from ++ drop (length from) to ≡ pasted from to
-pasted_whole from to h = rw (take_all (length from) from (omega arith), take_all (length to) from h) refl
-
-pub pasted_part : (from to : List ℕ) → length to ≤ length from → take (length to) from ++ drop (length to) to ≡ pasted from to
-pasted_part from to h = rw (drop_of_length-le to {i = length to} (omega arith), drop_of_length-le to {i = length from} h) refl
 
 -- What these leave of the length
 

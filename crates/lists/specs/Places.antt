@@ -7,8 +7,8 @@ abbrev pub place : ℕ → List ℕ → ℕ
 place p [] = 0
 place p (q ∷ qs) = pick (eqb p q) 0 (suc (place p qs))
 
--- the page at a place moved to the end, the later ones one place down; nothing moves where there is no such place
-abbrev pub moved_to_end : (at : ℕ) → List ℕ → List ℕ
+-- the entry at a place moved to the end, the later ones one place down; nothing moves where there is no such place
+abbrev pub moved_to_end : {A : Type 0} → (at : ℕ) → List A → List A
 moved_to_end at xs = (take at xs ++ drop (suc at) xs) ++ take 1 (drop at xs)
 
 -- the first n gone, the rest moved to the front, zeros behind it
@@ -19,8 +19,8 @@ first_dropped n xs = drop n xs ++ replicate (min n (length xs)) 0
 unfoldable pub over : (from to : List ℕ) → (i : ℕ) → List ℕ
 over from to i = take i from ++ drop i to
 
--- as many pages of the first list as there is room for, over the front of the second
-abbrev pub pasted : (from to : List ℕ) → List ℕ
+-- as many entries of the first list as there is room for, over the front of the second
+abbrev pub pasted : {A : Type 0} → (from to : List A) → List A
 pasted from to = take (length to) from ++ drop (length from) to
 
 -- the pages held, or what stands beside them, in a lent list: zeros from the count up to k, and the places past k keep their contents

@@ -8,45 +8,43 @@ ghost use Rattle.lists.specs.Places.{place};
 
 pub mod moves;
 
+// The places that are looked at together: a part without the page is passed over.
+const PART: usize = 32;
+
 // Whether the page stands in the list. The whole list is looked at, eight places or more at once, which is quicker than to stop early.
+#[tactic(auto, using(crate::proofs::Leaves::has_turn))]
 pub fn has(pages: &[u32], page: u32) -> bool
     ensures { result ≡ mem page pages.now }
 {
     let mut found = false;
-    let mut i = 0;
-    while i < pages.len() {
-        found = found | (pages[i] == page);
-        i += 1;
+    for other in pages {
+        found |= *other == page;
     }
     found
 }
 
-// The first place of the page, or the length where it is not in the list. Parts of 32 places that do not have it are passed over.
+// The first place of the page, or the length where it is not in the list.
 pub fn find(pages: &[u32], page: u32) -> usize
     ensures { result ≡ place page pages.now }
 {
-    let mut i = parts_without(pages, page);
-    while i < pages.len() {
-        if pages[i] == page {
-            return i;
+    let passed = parts_without(pages, page);
+    for (i, other) in pages[passed..].iter().enumerate() {
+        if *other == page {
+            return passed + i;
         }
-        i += 1;
     }
-    i
+    pages.len()
 }
 
-// How many places at the start, 32 by 32, do not have the page.
+// How many places at the start, part by part, do not have the page.
 fn parts_without(pages: &[u32], page: u32) -> usize
     ensures { (result ≤ length pages.now) × (place page pages.now ≡ result + place page (drop result pages.now)) }
 {
-    let mut passed = 0;
-    let mut parts = pages.len() / 32;
-    while parts > 0 {
-        parts -= 1;
-        if has(&pages[passed..passed + 32], page) {
-            return passed;
+    for part in 0..pages.len() / PART {
+        let from = part * PART;
+        if has(&pages[from..from + PART], page) {
+            return from;
         }
-        passed += 32;
     }
-    passed
+    pages.len() / PART * PART
 }

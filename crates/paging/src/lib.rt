@@ -65,40 +65,22 @@ impl Sizes {
         Ok(())
     }
 
-    // 1 where k is 0 or above 256, 2 where a is 0 or above k, else 0.
-    #[tactic(auto, using(crate::proofs::Refusals::sizes_rules))]
+    // The same by number, 0 for none.
     pub fn refusal(self) -> u32
         ensures { result ≡ sizes_refusal self.k self.a 0 }
     {
-        let k = self.k;
-        let a = self.a;
-        if k == 0 {
-            return 1;
+        match self.check() {
+            Ok(()) => 0,
+            Err(reason) => reason.number(),
         }
-        if k > Sizes::K_MAX {
-            return 1;
-        }
-        if a == 0 {
-            return 2;
-        }
-        if a > k {
-            return 2;
-        }
-        0
     }
 
-    // The same for a call over a lent trace: then 3 where it has too many requests.
-    #[tactic(auto, using(crate::proofs::Refusals::trace_rules))]
     pub fn trace_refusal(self, trace: &[u32]) -> u32
         ensures { result ≡ trace_refusal self.k self.a trace.now 0 }
     {
-        let no = self.refusal();
-        if no != 0 {
-            return no;
+        match self.check_trace(trace) {
+            Ok(()) => 0,
+            Err(reason) => reason.number(),
         }
-        if trace.len() > Sizes::TRACE_MAX {
-            return 3;
-        }
-        0
     }
 }

@@ -1,12 +1,7 @@
--- `lists::parts_without` meets its contract: the places passed do not have the page.
-use Prim.Native.Nat.{◌+◌, ◌*◌, ◌≤◌}
-use mathlib.Core.Path.{◌≡◌}
-use lib.ListN.{length, drop}
+-- `lists::parts_without` meets its contract: the parts looked at do not have the page.
+use Rattle.std.proofs.Common.{◌≡◌, ◌+◌, ◌*◌, drop}
 use Rattle.lists.specs.Places.{place}
 use Rattle.lists.proofs.parts_without.Given as goal
 
-abbrev pub invariant-loop-parts : goal.invariant-loop-parts
-invariant-loop-parts l = (l.passed + 32 * l.parts ≤ length l.pages) × (place l.page l.pages ≡ l.passed + place l.page (drop l.passed l.pages))
-
-abbrev pub decreases-loop-parts : goal.decreases-loop-parts
-decreases-loop-parts l = l.parts
+abbrev pub invariant-loop-part : goal.invariant-loop-part
+invariant-loop-part l = place l.page l.pages ≡ l.part * 32 + place l.page (drop (l.part * 32) l.pages)
