@@ -4,6 +4,7 @@ ghost use Rattle.paging.specs.Refusals.{largest_k};
 ghost use Rattle.reading.specs.Answers.{schedule_answer};
 ghost use Rattle.reading.specs.Reading.{read_schedule};
 
+use paging::Refusal;
 use reading::ScheduleRecord;
 
 #[derive(Clone, Copy)]
@@ -21,7 +22,7 @@ impl<'a> ScheduleReader<'a> {
     }
 
     // What stands at its offset. Of a bundle the answer says where its pages start and how many they are: `pages` gives them.
-    pub fn read(self) -> ScheduleRecord
+    pub fn read(self) -> Result<ScheduleRecord, Refusal>
         ensures { schedule_answer result ≡ read_schedule largest_k self.entry.file.now self.entry.at }
     {
         reading::schedule(self.file, self.at)
@@ -46,7 +47,7 @@ impl<'a> ScheduleReader<'a> {
 }
 
 // What a schedule reader of a file finds at an offset, for callers that have no reader.
-pub fn schedule_at(file: &[u8], at: usize) -> ScheduleRecord
+pub fn schedule_at(file: &[u8], at: usize) -> Result<ScheduleRecord, Refusal>
     ensures { schedule_answer result ≡ read_schedule largest_k file.now at }
 {
     ScheduleReader::new(file).moved(at).read()

@@ -3,6 +3,7 @@ ghost use Rattle.std.specs.Prelude.{◌≡◌};
 ghost use Rattle.reading.specs.Answers.{trace_answer};
 ghost use Rattle.reading.specs.Reading.{read_trace};
 
+use paging::Refusal;
 use reading::TraceRecord;
 
 #[derive(Clone, Copy)]
@@ -20,7 +21,7 @@ impl<'a> TraceReader<'a> {
     }
 
     // What stands at its offset.
-    pub fn read(self) -> TraceRecord
+    pub fn read(self) -> Result<TraceRecord, Refusal>
         ensures { trace_answer result ≡ read_trace self.entry.file.now self.entry.at }
     {
         reading::trace(self.file, self.at)
@@ -38,7 +39,7 @@ impl<'a> TraceReader<'a> {
 }
 
 // What a trace reader of a file finds at an offset, for callers that have no reader.
-pub fn trace_at(file: &[u8], at: usize) -> TraceRecord
+pub fn trace_at(file: &[u8], at: usize) -> Result<TraceRecord, Refusal>
     ensures { trace_answer result ≡ read_trace file.now at }
 {
     TraceReader::new(file).moved(at).read()

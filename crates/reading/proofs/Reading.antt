@@ -133,6 +133,12 @@ module _ (bound n : ℕ) where
   unfolding count_refused ◌or◌
   count_fine z h f = rw (ne_eqb n 0 z, le-ltb bound n h, le-ltb 256 n f)
 
+pub ruleset ka_rules = (ka_cut, ka_judged, ka_taken)
+
+pub ruleset rq_rules = (rq_cut, rq_taken)
+
+pub ruleset pf_rules = (pf_cut, pf_taken)
+
 pub ruleset run_rules = (rr_cut, rr_none, rr_taken)
 
 pub ruleset bundle_rules =
@@ -194,6 +200,10 @@ module _ (bound : ℕ) (s : List ℕ) (at : ℕ) where
       → y ≡ entry_read (mark_at (drop at s)) bound (drop at s) at → y ≡ read_schedule bound s at
   unfolding read_schedule
   schedule_later = later s at _
+
+pub ruleset trace_rules = (trace_past, trace_first, trace_last, trace_later)
+
+pub ruleset schedule_rules = (schedule_past, schedule_first, schedule_last, schedule_later)
 
 -- ---- the part of a file that an EV's pages are
 

@@ -16,7 +16,12 @@ use Rattle.paging.specs.Refusals.{refuse, sizes_refusal}
 use Rattle.paging.proofs.Refusals.{sizes_fall}
 use Rattle.wire.specs.Numbers.{bytes32, all_bytes32, placed}
 use Rattle.wire.proofs.Numbers.{placed_join, length_placed, length_all_bytes32}
-use Rattle.records.specs.Writing.{stored, refused, room_refusal, pages_refused, ka_refusal, rr_refusal, ev_refusal, wrote, out_after, put_length, put_bytes}
+use Rattle.records.specs.Writing.{stored, refused, room_refusal, pages_refused, ka_refusal, rr_refusal, ev_refusal, wrote, out_after, put_length, put_bytes, some_length}
+use Rattle.std.specs.Prelude.{Option, Some, None, IsSome, Result, Err}
+use Rattle.paging.specs.Numbers.{number_of}
+use Rattle.paging.specs.declared.reasons.Refusal.{Refusal}
+use Rattle.records.specs.Answers.{written_answer}
+use Rattle.records.proofs.Lengths.{some_length_of, length_of_some}
 
 -- ---- stores one behind the other, from the start on
 
@@ -99,16 +104,17 @@ all_placed s pages t i h g e = e ∙ ap (λ (x : List ℕ). placed s 8 (all_byte
 
 -- ---- a record at the start of the rest
 
-pub put_barred : (b rest : List ℕ) (t : Bool) → t ≡ true → (0 ≡ put_length t b rest) × (rest ≡ put_bytes t b rest)
+pub put_barred : (b rest : List ℕ) (t : Bool) → t ≡ true → (None ≡ some_length (put_length t b rest)) × (rest ≡ put_bytes t b rest)
 put_barred b rest t e = (rw e, rw e)
 
-pub put_short : (b rest : List ℕ) (t : Bool) → t ≡ false → length rest < length b → (0 ≡ put_length t b rest) × (rest ≡ put_bytes t b rest)
+pub put_short : (b rest : List ℕ) (t : Bool) → t ≡ false → length rest < length b
+    → (None ≡ some_length (put_length t b rest)) × (rest ≡ put_bytes t b rest)
 put_short b rest t e h = (rw (e, lt-ltb (length rest) (length b) h), rw (e, lt-ltb (length rest) (length b) h))
 
-pub put_whole : (b rest after : List ℕ) (n : ℕ) (t : Bool) → t ≡ false → n ≡ length b → length b ≤ length rest → after ≡ placed rest 0 b
-    → (n ≡ put_length t b rest) × (after ≡ put_bytes t b rest)
-put_whole b rest after n t e l h p =
-    (rw (e, le-ltb (length rest) (length b) h) l, rw (e, le-ltb (length rest) (length b) h) p)
+pub put_whole : (b rest after : List ℕ) (n : ℕ) (t : Bool) → t ≡ false → n ≡ length b → length b ≤ length rest → 0 < n → after ≡ placed rest 0 b
+    → (Some n ≡ some_length (put_length t b rest)) × (after ≡ put_bytes t b rest)
+put_whole b rest after n t e l h z p =
+    (rw (e, le-ltb (length rest) (length b) h, ← l) (some_length_of n z), rw (e, le-ltb (length rest) (length b) h) p)
 
 -- ---- an EV's n
 
@@ -196,22 +202,26 @@ module _ (b out : List ℕ) (at : ℕ) (none : 0 ≡ room_refusal b out at) wher
       let m : length b ≤ length out - at = ltb-false (length out - at) (length b) q.0 in
       omega arith
 
-  -- with room, the call below has put the whole record
+  -- with room, the call below has put the record
+  pub put_some : (barred : Bool) → barred ≡ false → (answer : Option ℕ) → 0 < length b → answer ≡ some_length (put_length barred b (part out at)) → IsSome answer
+  put_some barred fine answer h e =
+      let l : length b ≤ length (part out at) = let f : at + length b ≤ length out = room_fits in rw (part_is out at, length-drop at out) (omega arith) in
+      let s : answer ≡ Some (length b) = e ∙ rw (fine, le-ltb (length (part out at)) (length b) l) (sym (some_length_of (length b) h)) in
+      rw s refl
+
+  -- and put it whole
   module _ (size : ℕ) (rest : List ℕ) (barred : Bool) (fine : barred ≡ false)
-      (answered : size ≡ put_length barred b (part out at)) (changed : rest ≡ put_bytes barred b (part out at)) where
+      (answered : Some size ≡ some_length (put_length barred b (part out at))) (changed : rest ≡ put_bytes barred b (part out at)) where
     in_part : length b ≤ length (part out at)
     in_part = let f : at + length b ≤ length out = room_fits in rw (part_is out at, length-drop at out) (omega arith)
 
     put_size : size ≡ length b
-    put_size = answered ∙ rw (fine, le-ltb (length (part out at)) (length b) in_part)
+    put_size = length_of_some _ _ answered ∙ rw (fine, le-ltb (length (part out at)) (length b) in_part)
 
     put_back : back out at rest ≡ placed out at b
     put_back =
         let e : put_bytes barred b (part out at) ≡ placed (part out at) 0 b = rw (fine, le-ltb (length (part out at)) (length b) in_part) in
         ap (back out at) (changed ∙ e) ∙ back_placed out at b
-
-    pub put_fits : at + size ≤ length out
-    put_fits = omega (arith, room_fits, put_size)
 
     pub put_writes : (r : ℕ) → r ≡ 0
         → (stored (at + size) ≡ wrote r b at) × (back out at rest ≡ out_after r b out at)
@@ -223,6 +233,14 @@ pub refuses : (b out : List ℕ) (at n r : ℕ) → (n ≡ 0 → ⊥) → r ≡ 
     → (refused n ≡ wrote r b at) × (out ≡ out_after r b out at)
 refuses b out at zero r z e = absurd (z refl)
 refuses b out at (suc n) r z e = (rw e, rw e)
+
+-- the same where the call below has told the reason
+number_some : (reason : Refusal) → number_of reason ≡ 0 → ⊥
+number_some reason e = grind arith
+
+pub room_refused : (b out : List ℕ) (at r : ℕ) (answer : Result ℕ Refusal) (reason : Refusal) → answer ≡ Err reason → number_of reason ≡ r
+    → (written_answer answer ≡ wrote r b at) × (out ≡ out_after r b out at)
+room_refused b out at r answer reason e n = rw e (refuses b out at (number_of reason) r (number_some reason) (sym n))
 
 -- the refusals that come before the room's: the answer is the number, and no byte changes
 module _ (b out : List ℕ) (at : ℕ) where

@@ -1,6 +1,6 @@
 -- The writers (document 01, "Files"). Each stores its record into lent bytes and answers the offset behind it. It judges what is
 -- wrong with the record itself first, 1 and 2 for a KA, 6 for an EV, 13 for an RR (document 02, request 03); then the offset, 9; then the room, 8.
-use Rattle.std.specs.Prelude.{ℕ, zero, suc, ◌+◌, ◌-◌, Bool, List, eqb, ltb, length}
+use Rattle.std.specs.Prelude.{ℕ, zero, suc, ◌+◌, ◌-◌, Bool, List, Option, Some, None, eqb, ltb, length}
 use Rattle.lists.specs.Choice.{pick, ◌or◌}
 use Rattle.paging.specs.Refusals.{refuse, sizes_refusal, largest_k}
 use Rattle.wire.specs.Numbers.{placed}
@@ -48,6 +48,11 @@ out_after (suc n) b out at = out
 -- answered; else 0 is, and nothing changes
 abbrev pub put_length : Bool → List ℕ → List ℕ → ℕ
 put_length barred b rest = pick barred 0 (pick (ltb (length rest) (length b)) 0 (length b))
+
+-- a length as it is answered: None where it is 0, so that nothing is written
+abbrev pub some_length : ℕ → Option ℕ
+some_length zero = None
+some_length (suc n) = Some (suc n)
 
 abbrev pub put_bytes : Bool → List ℕ → List ℕ → List ℕ
 put_bytes barred b rest = pick barred rest (pick (ltb (length rest) (length b)) rest (placed rest 0 b))

@@ -3,15 +3,15 @@ ghost use Rattle.std.specs.Prelude.{◌≡◌};
 ghost use Rattle.records.specs.Answers.{kind_mark};
 ghost use Rattle.records.specs.Marks.{mark_of};
 
-#[derive(Clone, Copy)]
+use paging::Refusal;
+
+#[derive(Clone, Copy, Debug, PartialEq, Eq)]
 pub enum Kind {
     Ka,
     Rq,
     Rr,
     Ev,
     Pf,
-    // No kind: 4 for an unknown mark, 5 where the file ends before it.
-    Refused(u32),
 }
 
 impl Kind {
@@ -27,15 +27,21 @@ impl Kind {
     pub const PF: u16 = 0x4650;
 }
 
-pub fn of_mark(mark: u16) -> Kind
-    ensures { kind_mark result ≡ mark_of mark }
-{
-    match mark {
-        Kind::KA => Kind::Ka,
-        Kind::RQ => Kind::Rq,
-        Kind::RR => Kind::Rr,
-        Kind::EV => Kind::Ev,
-        Kind::PF => Kind::Pf,
-        _ => Kind::Refused(4),
+// A kind's mark; an unknown mark is 4.
+impl TryFrom<u16> for Kind {
+    type Error = Refusal;
+
+    ghost try_from_gives = { λ mark result. kind_mark result ≡ mark_of mark };
+
+    #[tactic(auto, using(crate::proofs::Marks::mark_other), unfolding(crate::specs::Marks::mark_of))]
+    fn try_from(mark: u16) -> Result<Kind, Refusal> {
+        match mark {
+            Kind::KA => Ok(Kind::Ka),
+            Kind::RQ => Ok(Kind::Rq),
+            Kind::RR => Ok(Kind::Rr),
+            Kind::EV => Ok(Kind::Ev),
+            Kind::PF => Ok(Kind::Pf),
+            _ => Err(Refusal::WrongMark),
+        }
     }
 }

@@ -2,6 +2,7 @@
 // else (document 02, request 04).
 ghost use Rattle.std.specs.Prelude.{◌≡◌};
 ghost use Rattle.records.specs.Bytes.{ev_length_answer};
+ghost use Rattle.records.specs.Writing.{some_length};
 
 pub const KA: usize = 6;
 
@@ -17,14 +18,13 @@ pub const EV_HEAD: usize = 8;
 // The most pages of an EV.
 pub const PAGES_MAX: usize = paging::Sizes::K_MAX as usize;
 
-// The length of an EV with n pages. No EV has more than 256: 0 is answered for more, where 4n might not even fit. Inner: whoever calls it
-// has judged n (6) before.
+// The length of an EV with n pages. No EV has more than 256: None for more, where 4n might not even fit.
 #[tactic(auto, using(crate::proofs::Lengths::length_rules))]
-pub fn ev_length(n: usize) -> usize
-    ensures { result ≡ ev_length_answer n }
+pub fn ev_length(n: usize) -> Option<usize>
+    ensures { result ≡ some_length (ev_length_answer n) }
 {
     if n > PAGES_MAX {
-        return 0;
+        return None;
     }
-    EV_HEAD + 4 * n
+    Some(EV_HEAD + 4 * n)
 }
