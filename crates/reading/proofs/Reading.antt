@@ -4,11 +4,10 @@ use native.Mathlib.Omega.{arith}
 use mathlib.Core.Bool.{true, false}
 use mathlib.Core.List.{List}
 use mathlib.Core.Path.{◌≡◌, refl, sym, ap, ◌∙◌}
-use lib.Dec.{eqb, ltb}
 use lib.ListN.{length, drop, take, length-drop, drop_of_length-le}
 use lib.Seq.{drop-drop, take_all, take-nil}
 use borrow.Author.Tests.{lt-ltb, le-ltb, eq-eqb, ne_eqb}
-use Rattle.lists.specs.Choice.{pick, ◌or◌}
+use Rattle.lists.specs.Choice.{◌or◌}
 use Rattle.paging.specs.Refusals.{sizes_refusal}
 use Rattle.wire.specs.Numbers.{num16, num32}
 use Rattle.records.specs.Bytes.{ev_length}
@@ -16,6 +15,7 @@ use Rattle.records.specs.Marks.{Mark, KA, bad, mark_of, mark_at}
 use Rattle.records.proofs.Lengths.{ev_length_is}
 use Rattle.reading.specs.Reading.{Answer, refused, ended, sizes, request, bundle, fetch, unless, ka_read, rq_read, rr_read, request_read, ev_read, pf_read, entry_read, count_refused}
 use Rattle.reading.specs.Reading.{read_trace, read_schedule}
+use Rattle.reading.specs.inner.Places.{read_at}
 
 -- ---- marks
 
@@ -144,66 +144,53 @@ pub ruleset run_rules = (rr_cut, rr_none, rr_taken)
 pub ruleset bundle_rules =
     (ev_cut, ev_count, ev_pages_cut, ev_taken, count_none, count_above, count_far, count_fine, ev_length_is)
 
--- ---- the readers: what is behind the offset's tests
-
--- both readers differ only in what is expected behind the KA
-abbrev behind : List ℕ → ℕ → Answer → Answer
-behind s at x = pick (ltb (length s) at) (refused 9) (pick (eqb at 0) (ka_read (mark_at s) s) (pick (eqb at (length s)) ended x))
+-- ---- both readers: where the offset lies
 
 module _ (s : List ℕ) (at : ℕ) (x : Answer) where
-  past : length s < at → refused 9 ≡ behind s at x
-  past h = rw (lt-ltb (length s) at h)
+  pub place_past : length s < at → refused 9 ≡ read_at s at x
+  place_past h = rw (lt-ltb (length s) at h)
 
-  first : {y : Answer} → at ≡ 0 → y ≡ ka_read (mark_at s) s → y ≡ behind s at x
-  first h e =
+  pub place_first : {y : Answer} → at ≡ 0 → y ≡ ka_read (mark_at s) s → y ≡ read_at s at x
+  place_first h e =
       let l : at ≤ length s = omega arith in
       rw (le-ltb (length s) at l, eq-eqb at 0 h) e
 
-  last : at ≤ length s → (at ≡ 0 → ⊥) → at ≡ length s → ended ≡ behind s at x
-  last l z e = rw (le-ltb (length s) at l, ne_eqb at 0 z, eq-eqb at (length s) e)
+  pub place_last : at ≤ length s → (at ≡ 0 → ⊥) → at ≡ length s → ended ≡ read_at s at x
+  place_last l z e = rw (le-ltb (length s) at l, ne_eqb at 0 z, eq-eqb at (length s) e)
 
-  later : {y : Answer} → at ≤ length s → (at ≡ 0 → ⊥) → (at ≡ length s → ⊥) → y ≡ x → y ≡ behind s at x
-  later l z e q = rw (le-ltb (length s) at l, ne_eqb at 0 z, ne_eqb at (length s) e) q
+  pub place_inside : at ≤ length s → (at ≡ 0 → ⊥) → (at ≡ length s → ⊥) → x ≡ read_at s at x
+  place_inside l z e = rw (le-ltb (length s) at l, ne_eqb at 0 z, ne_eqb at (length s) e)
 
-module _ (s : List ℕ) (at : ℕ) where
-  pub trace_past : length s < at → refused 9 ≡ read_trace s at
+pub ruleset place_rules = (place_past, place_first, place_last, place_inside)
+
+module _ (s : List ℕ) (at : ℕ) {y : Answer} where
+  pub trace_by_place : y ≡ read_at s at (request_read (mark_at (drop at s)) (drop at s) at) → y ≡ read_trace s at
   unfolding read_trace
-  trace_past = past s at _
+  trace_by_place e = e
 
-  pub trace_first : {y : Answer} → at ≡ 0 → y ≡ ka_read (mark_at s) s → y ≡ read_trace s at
-  unfolding read_trace
-  trace_first = first s at _
+  pub trace_first : at ≡ 0 → y ≡ ka_read (mark_at s) s → y ≡ read_trace s at
+  trace_first h e = trace_by_place (place_first s at _ h e)
 
-  pub trace_last : at ≤ length s → (at ≡ 0 → ⊥) → at ≡ length s → ended ≡ read_trace s at
-  unfolding read_trace
-  trace_last = last s at _
+  pub trace_later : at ≤ length s → (at ≡ 0 → ⊥) → (at ≡ length s → ⊥) → y ≡ request_read (mark_at (drop at s)) (drop at s) at → y ≡ read_trace s at
+  trace_later l z e q = trace_by_place (q ∙ place_inside s at _ l z e)
 
-  pub trace_later : {y : Answer} → at ≤ length s → (at ≡ 0 → ⊥) → (at ≡ length s → ⊥)
-      → y ≡ request_read (mark_at (drop at s)) (drop at s) at → y ≡ read_trace s at
-  unfolding read_trace
-  trace_later = later s at _
+pub trace_last : (s : List ℕ) (at : ℕ) → at ≤ length s → (at ≡ 0 → ⊥) → at ≡ length s → ended ≡ read_trace s at
+trace_last s at l z e = trace_by_place s at (place_last s at _ l z e)
 
-module _ (bound : ℕ) (s : List ℕ) (at : ℕ) where
-  pub schedule_past : length s < at → refused 9 ≡ read_schedule bound s at
+module _ (bound : ℕ) (s : List ℕ) (at : ℕ) {y : Answer} where
+  pub schedule_by_place : y ≡ read_at s at (entry_read (mark_at (drop at s)) bound (drop at s) at) → y ≡ read_schedule bound s at
   unfolding read_schedule
-  schedule_past = past s at _
+  schedule_by_place e = e
 
-  pub schedule_first : {y : Answer} → at ≡ 0 → y ≡ ka_read (mark_at s) s → y ≡ read_schedule bound s at
-  unfolding read_schedule
-  schedule_first = first s at _
+  pub schedule_first : at ≡ 0 → y ≡ ka_read (mark_at s) s → y ≡ read_schedule bound s at
+  schedule_first h e = schedule_by_place (place_first s at _ h e)
 
-  pub schedule_last : at ≤ length s → (at ≡ 0 → ⊥) → at ≡ length s → ended ≡ read_schedule bound s at
-  unfolding read_schedule
-  schedule_last = last s at _
-
-  pub schedule_later : {y : Answer} → at ≤ length s → (at ≡ 0 → ⊥) → (at ≡ length s → ⊥)
+  pub schedule_later : at ≤ length s → (at ≡ 0 → ⊥) → (at ≡ length s → ⊥)
       → y ≡ entry_read (mark_at (drop at s)) bound (drop at s) at → y ≡ read_schedule bound s at
-  unfolding read_schedule
-  schedule_later = later s at _
+  schedule_later l z e q = schedule_by_place (q ∙ place_inside s at _ l z e)
 
-pub ruleset trace_rules = (trace_past, trace_first, trace_last, trace_later)
-
-pub ruleset schedule_rules = (schedule_past, schedule_first, schedule_last, schedule_later)
+pub schedule_last : (bound : ℕ) (s : List ℕ) (at : ℕ) → at ≤ length s → (at ≡ 0 → ⊥) → at ≡ length s → ended ≡ read_schedule bound s at
+schedule_last bound s at l z e = schedule_by_place bound s at (place_last s at _ l z e)
 
 -- ---- the part of a file that an EV's pages are
 

@@ -2,12 +2,13 @@
 // 02, request 03), 6 for an EV and 5 for its pages.
 #![tactic(auto)]
 
-ghost use Rattle.std.specs.Prelude.{◌*◌, ◌≤◌, ◌≡◌, length, take, drop};
+ghost use Rattle.std.specs.Prelude.{◌*◌, ◌≤◌, ◌≡◌, IfOk, length, take, drop};
 ghost use Rattle.paging.specs.Refusals.{largest_k};
 ghost use Rattle.records.specs.Answers.{kind_mark};
 ghost use Rattle.records.specs.Marks.{KA, mark_at};
 ghost use Rattle.reading.specs.Answers.{start_answer, trace_answer, schedule_answer};
-ghost use Rattle.reading.specs.Reading.{ka_read, rq_read, rr_read, request_read, ev_read, pf_read, entry_read, read_trace, read_schedule};
+ghost use Rattle.reading.specs.inner.Places.{place_answer, read_at};
+ghost use Rattle.reading.specs.Reading.{Answer, ka_read, rq_read, rr_read, request_read, ev_read, pf_read, entry_read, read_trace, read_schedule};
 
 use paging::{Refusal, Sizes};
 use records::kind::Kind;
@@ -43,6 +44,14 @@ pub enum ScheduleRecord {
     End,
 }
 
+// Where an offset of a file lies, with the KA at its start.
+#[derive(Clone, Copy)]
+enum Place {
+    Start(Sizes),
+    Inside,
+    End,
+}
+
 // The most pages of an EV for a reader of records, which has no a.
 const MOST: u32 = Sizes::K_MAX;
 
@@ -69,41 +78,33 @@ pub fn ka(s: &[u8]) -> Result<Sizes, Refusal>
 }
 
 // The trace reader.
-#[tactic(auto, using(crate::proofs::Reading::trace_rules))]
+#[tactic(auto, using(crate::proofs::Reading::trace_by_place))]
 pub fn trace(s: &[u8], at: usize) -> Result<TraceRecord, Refusal>
     ensures { trace_answer result ≡ read_trace s.now at }
 {
-    if at > s.len() {
-        return Err(Refusal::IllFormed);
+    match place_of(s, at)? {
+        Place::Start(Sizes { k, a }) => {
+            let next = length::KA;
+            Ok(TraceRecord::Sizes { k, a, next })
+        }
+        Place::Inside => request(s, at),
+        Place::End => Ok(TraceRecord::End),
     }
-    if at == 0 {
-        let Sizes { k, a } = ka(s)?;
-        let next = length::KA;
-        return Ok(TraceRecord::Sizes { k, a, next });
-    }
-    if at == s.len() {
-        return Ok(TraceRecord::End);
-    }
-    request(s, at)
 }
 
 // The schedule reader, where an EV may have up to `bound` pages (and never more than 256): the judge's bound is its a.
-#[tactic(auto, using(crate::proofs::Reading::schedule_rules))]
+#[tactic(auto, using(crate::proofs::Reading::schedule_by_place))]
 pub fn schedule_within(s: &[u8], at: usize, bound: u32) -> Result<ScheduleRecord, Refusal>
     ensures { schedule_answer result ≡ read_schedule bound s.now at }
 {
-    if at > s.len() {
-        return Err(Refusal::IllFormed);
+    match place_of(s, at)? {
+        Place::Start(Sizes { k, a }) => {
+            let next = length::KA;
+            Ok(ScheduleRecord::Sizes { k, a, next })
+        }
+        Place::Inside => entry(s, at, bound),
+        Place::End => Ok(ScheduleRecord::End),
     }
-    if at == 0 {
-        let Sizes { k, a } = ka(s)?;
-        let next = length::KA;
-        return Ok(ScheduleRecord::Sizes { k, a, next });
-    }
-    if at == s.len() {
-        return Ok(ScheduleRecord::End);
-    }
-    entry(s, at, bound)
 }
 
 // The schedule reader.
@@ -126,6 +127,24 @@ pub fn pages(s: &[u8], from: usize, n: usize) -> &[u8]
         return &s[from..];
     }
     &s[from..from + 4 * n]
+}
+
+// Both readers tell the places of a file apart alike.
+#[tactic(auto, using(crate::proofs::Reading::place_rules))]
+fn place_of(s: &[u8], at: usize) -> Result<Place, Refusal>
+    ensures answer { (x : Answer) → place_answer result x ≡ read_at s.now at x }
+    ensures inside { IfOk result (λ _. at ≤ length s.now) }
+{
+    if at > s.len() {
+        return Err(Refusal::IllFormed);
+    }
+    if at == 0 {
+        return Ok(Place::Start(ka(s)?));
+    }
+    if at == s.len() {
+        return Ok(Place::End);
+    }
+    Ok(Place::Inside)
 }
 
 // The fields of a KA behind its mark.

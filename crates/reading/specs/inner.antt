@@ -1,0 +1,2 @@
+-- Contracts between the functions of this crate: nothing here has to be believed.
+pub mod Places
