@@ -14,9 +14,9 @@ use Rattle.paging.proofs.Runs.{kind_of_cases}
 use Rattle.paging.specs.declared.Keeping.{Keeping}
 use Rattle.queue.specs.Calls.{run_refusal, request_refusal, refused, reply_of, evicted_of}
 use Rattle.queue.specs.Previews.{Ask, preview, request, call_for, evicted_after, after_asks, requests_in, PreviewsHold}
+use Rattle.queue.specs.Answers.{ReplyAnswer}
 use Rattle.queue.specs.Serving.{evicted_served, reply_served}
 use Rattle.queue.specs.Standing.{State, called, after_calls}
-use Rattle.queue.specs.declared.Reply.{Reply}
 use Rattle.queue.specs.declared.Run.{Run}
 use Rattle.queue.specs.inner.Ready.{RequestReady}
 use Rattle.queue.proofs.Refusals.{ready_of}
@@ -129,8 +129,8 @@ previews_hold keeping =
           let told_is = p.0 in (
             r.0 ∙ same ∙ sym told_is,
             λ two.
-                let two_here = sym (ap (λ (x : Reply). x.answer) told_is) ∙ two in
-                let two-there = ap (λ (x : Reply). x.answer) same ∙ two_here in
+                let two_here = sym (ap (λ (x : ReplyAnswer). x.answer) told_is) ∙ two in
+                let two-there = ap (λ (x : ReplyAnswer). x.answer) same ∙ two_here in
                 ap (take run.a) r.1.1 ∙ bundle_shown run count cache other page keeping two-there
                 ∙ sym (ap (take run.a) p.1 ∙ bundle_shown run count cache evicted page keeping two_here),
           );

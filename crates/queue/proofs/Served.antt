@@ -16,8 +16,8 @@ use Rattle.lists.proofs.Pages.{erase_all_take}
 use Rattle.paging.specs.Policy.{after_hit}
 use Rattle.paging.specs.declared.Keeping.{Keeping}
 use Rattle.paging.specs.declared.Keeping.TheVariants.{ByRequest, ByLoad}
+use Rattle.queue.specs.Answers.{ReplyAnswer}
 use Rattle.queue.specs.Serving.{cache_served, evicted_served, reply_served}
-use Rattle.queue.specs.declared.Reply.{Reply}
 use Rattle.queue.specs.declared.Run.{Run}
 use Rattle.queue.specs.declared.serving.Found.{Found}
 use Rattle.queue.specs.declared.serving.Found.TheVariants.{Held, Room, Full}
@@ -63,6 +63,9 @@ module _ (k page : ℕ) (held : List ℕ) where
       (λ r. let e' = rw (m, r) at e in never (cc))
       (λ r. (m, ltb-false _ _ r)))
 
+pub ruleset finds_rules =
+    (finds_held, finds_room, finds_full)
+
 -- the cache list as it is left on a hit
 pub hit_settled : (keeping : Keeping) (found : Found) (at from n k a page : ℕ) (cache y : List ℕ) → found ≡ Held at → from ≡ moved_from keeping at n
     → y ≡ laid k (moved_to_end from (take n cache)) cache → y ≡ cache_for keeping found n k a page cache
@@ -71,13 +74,13 @@ hit_settled keeping found at from n k a page cache y f e h = rw (f, ← e) h
 -- Writing and answering: y and v are the cache list and the evicted list as they were left
 
 -- what the step promises of its answer and of the two lists
-abbrev pub Served : Keeping → (run : Run) (count : ℕ) (cache evicted : List ℕ) (page : ℕ) → Reply → (y v : List ℕ) → Type 0
+abbrev pub Served : Keeping → (run : Run) (count : ℕ) (cache evicted : List ℕ) (page : ℕ) → ReplyAnswer → (y v : List ℕ) → Type 0
 Served keeping run count cache evicted page reply y v =
     (reply ≡ reply_served keeping run count cache page)
     × ((y ≡ cache_served keeping run count cache page) × (v ≡ evicted_served run count cache evicted page))
 
 -- and what a preview tells of it, for either way of keeping the list
-abbrev pub Tells : (run : Run) (count : ℕ) (cache evicted : List ℕ) (page : ℕ) → Reply → (v : List ℕ) → Type 0
+abbrev pub Tells : (run : Run) (count : ℕ) (cache evicted : List ℕ) (page : ℕ) → ReplyAnswer → (v : List ℕ) → Type 0
 Tells run count cache evicted page reply v =
     (keeping : Keeping) → (reply ≡ reply_served keeping run count cache page) × (v ≡ evicted_served run count cache evicted page)
 
@@ -119,7 +122,7 @@ module _ (run : Run) (count : ℕ) (cache evicted : List ℕ) (page : ℕ) (read
       )
 
   -- the steps one after the other
-  pub acted : (keeping : Keeping) (found : Found) (reply : Reply) (y v : List ℕ) → found ≡ found_in run.k page (take count cache) → reply ≡ reply_for found run count
+  pub acted : (keeping : Keeping) (found : Found) (reply : ReplyAnswer) (y v : List ℕ) → found ≡ found_in run.k page (take count cache) → reply ≡ reply_for found run count
       → y ≡ cache_for keeping found count run.k run.a page cache → v ≡ evicted_for found run.a cache evicted
       → Served keeping run count cache evicted page reply y v
   acted keeping found reply y v f r c e =
@@ -132,7 +135,7 @@ module _ (run : Run) (count : ℕ) (cache evicted : List ℕ) (page : ℕ) (read
   settled keeping found f = (served_by keeping found f).1.0
 
   -- and the other two: what is told and the bundle do not hang on how that list is kept
-  pub told : (found : Found) (reply : Reply) (v : List ℕ) → found ≡ found_in run.k page (take count cache) → reply ≡ reply_for found run count
+  pub told : (found : Found) (reply : ReplyAnswer) (v : List ℕ) → found ≡ found_in run.k page (take count cache) → reply ≡ reply_for found run count
       → v ≡ evicted_for found run.a cache evicted → Tells run count cache evicted page reply v
   told found reply v f r e keeping =
       let s = served_by keeping found f in

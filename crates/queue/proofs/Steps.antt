@@ -24,9 +24,9 @@ use Rattle.paging.proofs.Runs.{holds_append, kinds_append, front_holds_any, fron
 use Rattle.paging.specs.declared.Keeping.{Keeping}
 use Rattle.paging.specs.declared.Keeping.TheVariants.{ByRequest, ByLoad}
 use Rattle.queue.specs.Calls.{run_refusal, request_refusal, reply_of, cache_of, totals_of}
+use Rattle.queue.specs.Answers.{ReplyAnswer}
 use Rattle.queue.specs.Serving.{empty_run, held_after, kind_in, run_served, cache_served, reply_served}
 use Rattle.queue.specs.Standing.{run_over, Stands, Call, State, empty_state, accepts, after_call, called, after_calls, accepted_pages, pages_of, roomy}
-use Rattle.queue.specs.declared.Reply.{Reply}
 use Rattle.queue.specs.declared.Run.{Run}
 use Rattle.queue.specs.inner.Ready.{RequestReady, TraceReady}
 use Rattle.queue.proofs.Refusals.{ready_of, well, trace_ready, totals_served}
@@ -189,7 +189,7 @@ pub stands_first_lem : (keeping : Keeping) (k a : ℕ) (trace : List ℕ) (run :
 stands_first_lem keeping k a trace run cache t e = rw e (stands_empty keeping k a cache t.sizes.a_low t.sizes.a_high t.sizes.k_high)
 
 -- one more request of a trace
-pub stands_next : (keeping : Keeping) (k a : ℕ) (trace : List ℕ) (i : ℕ) (run : Run) (count : ℕ) (cache y : List ℕ) (reply : Reply)
+pub stands_next : (keeping : Keeping) (k a : ℕ) (trace : List ℕ) (i : ℕ) (run : Run) (count : ℕ) (cache y : List ℕ) (reply : ReplyAnswer)
     → Stands keeping k a (take i trace) run count cache → i < length trace → k ≤ length cache
     → reply ≡ reply_served keeping run count cache (get_or trace i 0) → y ≡ cache_served keeping run count cache (get_or trace i 0)
     → Stands keeping k a (take (i + 1) trace) reply.run reply.count y

@@ -7,10 +7,9 @@ use Rattle.paging.specs.Front.{front_rule}
 use Rattle.paging.specs.Policy.{bundle_count_by, load_count_by}
 use Rattle.paging.specs.Refusals.{full_counter, refuse, sizes_refusal, trace_refusal}
 use Rattle.paging.specs.declared.Keeping.{Keeping}
+use Rattle.queue.specs.Answers.{ReplyAnswer, TotalsAnswer}
 use Rattle.queue.specs.Serving.{empty_run, cache_served, evicted_served, reply_served}
-use Rattle.queue.specs.declared.Reply.{Reply}
 use Rattle.queue.specs.declared.Run.{Run}
-use Rattle.queue.specs.declared.Totals.{Totals}
 
 -- document 01's "Well formed": only the first `count` places are looked at
 unfoldable pub well_formed : Run → (count : ℕ) → (cache : List ℕ) → Bool
@@ -33,12 +32,12 @@ run_refusal run count cache evicted ill rest =
 abbrev pub request_refusal : Run → (count : ℕ) → (cache evicted : List ℕ) → ℕ
 request_refusal run count cache evicted = run_refusal run count cache evicted false 0
 
-abbrev pub refused : (number : ℕ) → Reply
+abbrev pub refused : (number : ℕ) → ReplyAnswer
 refused number = record { refusal = number; run = empty_run 0 0; count = 0; answer = 0 }
 
 -- What the call answers, and the two lists after it. The bundle and the refusals are the same however the list is kept
 
-abbrev pub reply_of : Keeping → Run → (count : ℕ) → (cache evicted : List ℕ) → (page : ℕ) → Reply
+abbrev pub reply_of : Keeping → Run → (count : ℕ) → (cache evicted : List ℕ) → (page : ℕ) → ReplyAnswer
 reply_of keeping run count cache evicted page =
     pick (eqb (request_refusal run count cache evicted) 0)
     (reply_served keeping run count cache page)
@@ -53,24 +52,24 @@ evicted_of run count cache evicted page =
     pick (eqb (request_refusal run count cache evicted) 0) (evicted_served run count cache evicted page) evicted
 
 -- the promise of a request: its answer, and the two lists as it leaves them
-abbrev pub Answered : Keeping → Run → (count : ℕ) → (cache evicted : List ℕ) → (page : ℕ) → Reply → (cache_left evicted_left : List ℕ) → Type 0
+abbrev pub Answered : Keeping → Run → (count : ℕ) → (cache evicted : List ℕ) → (page : ℕ) → ReplyAnswer → (cache_left evicted_left : List ℕ) → Type 0
 Answered keeping run count cache evicted page reply cache_left evicted_left =
     (reply ≡ reply_of keeping run count cache evicted page)
     × ((cache_left ≡ cache_of keeping run count cache evicted page) × (evicted_left ≡ evicted_of run count cache evicted page))
 
 -- that of a preview (document 02, request 05): "the answer and the evicted list are those of serving the request on a copy of the state, refusals
 -- included". The record is the caller's own, and the cache list is only looked at
-abbrev pub PreviewedBy : Keeping → Run → (count : ℕ) → (cache evicted : List ℕ) → (page : ℕ) → Reply → (evicted_left : List ℕ) → Type 0
+abbrev pub PreviewedBy : Keeping → Run → (count : ℕ) → (cache evicted : List ℕ) → (page : ℕ) → ReplyAnswer → (evicted_left : List ℕ) → Type 0
 PreviewedBy keeping run count cache evicted page reply evicted_left =
     (reply ≡ reply_of keeping run count cache evicted page) × (evicted_left ≡ evicted_of run count cache evicted page)
 
 -- at once for either way of keeping the list
-abbrev pub Previewed : Run → (count : ℕ) → (cache evicted : List ℕ) → (page : ℕ) → Reply → (evicted_left : List ℕ) → Type 0
+abbrev pub Previewed : Run → (count : ℕ) → (cache evicted : List ℕ) → (page : ℕ) → ReplyAnswer → (evicted_left : List ℕ) → Type 0
 Previewed run count cache evicted page reply evicted_left = (keeping : Keeping) → PreviewedBy keeping run count cache evicted page reply evicted_left
 
 -- Over a whole trace, from the empty buffer
 
-abbrev pub totals_of : Keeping → (k a : ℕ) → (trace : List ℕ) → Totals
+abbrev pub totals_of : Keeping → (k a : ℕ) → (trace : List ℕ) → TotalsAnswer
 totals_of keeping k a trace =
     pick (eqb (trace_refusal k a trace 0) 0)
     (record { refusal = 0; bundles = bundle_count_by keeping (front_rule a) k trace; loads = load_count_by keeping (front_rule a) k trace })

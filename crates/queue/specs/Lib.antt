@@ -1,4 +1,5 @@
 pub mod Serving
+pub mod Answers
 pub mod Calls
 pub mod Standing
 pub mod Previews

@@ -1,9 +1,9 @@
 -- What a caller may count on who asks before serving (document 02, request 05), for either way of keeping the list and in every state, sound or not.
 use Rattle.std.specs.Prelude.{ℕ, ◌≤◌, List, [], ◌∷◌, ◌≡◌, length, take}
 use Rattle.paging.specs.declared.Keeping.{Keeping}
+use Rattle.queue.specs.Answers.{ReplyAnswer}
 use Rattle.queue.specs.Calls.{evicted_of, Answered, PreviewedBy}
 use Rattle.queue.specs.Standing.{Call, State, called, after_calls}
-use Rattle.queue.specs.declared.Reply.{Reply}
 use Rattle.queue.specs.declared.Run.{Run}
 
 -- Previews and requests in any order. A preview leaves the record, the count and the cache list, which it gets by value or only to look at; either
@@ -33,11 +33,11 @@ requests_in (request page ∷ asks) evicted = call_for page evicted ∷ requests
 pub record PreviewsHold (keeping : Keeping) : Type 0 where
   -- whoever previews a request and then makes it, with the evicted list as the preview left it, gets the reply that was told, and the evicted list is
   -- again as the preview left it
-  pub then_served : (run : Run) (count : ℕ) (cache evicted : List ℕ) (page : ℕ) (told reply : Reply) (shown cache_left evicted_left : List ℕ)
+  pub then_served : (run : Run) (count : ℕ) (cache evicted : List ℕ) (page : ℕ) (told reply : ReplyAnswer) (shown cache_left evicted_left : List ℕ)
       → PreviewedBy keeping run count cache evicted page told shown → Answered keeping run count cache shown page reply cache_left evicted_left
       → (reply ≡ told) × (evicted_left ≡ shown)
   -- with another evicted list, where both have room for a bundle, the reply is the same, and so is the bundle if there is one
-  pub then_served_elsewhere : (run : Run) (count : ℕ) (cache evicted other : List ℕ) (page : ℕ) (told reply : Reply) (shown cache_left evicted_left : List ℕ)
+  pub then_served_elsewhere : (run : Run) (count : ℕ) (cache evicted other : List ℕ) (page : ℕ) (told reply : ReplyAnswer) (shown cache_left evicted_left : List ℕ)
       → run.a ≤ length evicted → run.a ≤ length other
       → PreviewedBy keeping run count cache evicted page told shown → Answered keeping run count cache other page reply cache_left evicted_left
       → (reply ≡ told) × (told.answer ≡ 2 → take run.a evicted_left ≡ take run.a shown)

@@ -8,7 +8,7 @@ use Rattle.lists.specs.Places.{laid}
 use Rattle.paging.specs.Front.{front_rule}
 use Rattle.paging.specs.Policy.{Kind, kind_of, kind_number, is_bundled, is_load, serve_by}
 use Rattle.paging.specs.declared.Keeping.{Keeping}
-use Rattle.queue.specs.declared.Reply.{Reply}
+use Rattle.queue.specs.Answers.{ReplyAnswer}
 use Rattle.queue.specs.declared.Run.{Run}
 
 -- the empty start of a run
@@ -47,7 +47,7 @@ abbrev pub evicted_served : Run → (count : ℕ) → (cache evicted : List ℕ)
 evicted_served run count cache evicted page =
     pick (is_bundled (kind_in run count cache page)) (front_rule run.a [] (take count cache) ++ drop run.a evicted) evicted
 
-abbrev pub reply_served : Keeping → Run → (count : ℕ) → (cache : List ℕ) → (page : ℕ) → Reply
+abbrev pub reply_served : Keeping → Run → (count : ℕ) → (cache : List ℕ) → (page : ℕ) → ReplyAnswer
 reply_served keeping run count cache page =
     record {
       refusal = 0;

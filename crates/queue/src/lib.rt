@@ -3,18 +3,20 @@
 // least_recent), by load it is oldest load first (document 02, request 01; the crate fifo).
 #![tactic(auto)]
 
-ghost use Rattle.std.specs.Prelude.{◌≤◌, ◌≡◌, length, take};
-ghost use Rattle.queue.specs.Calls.{well_formed, run_refusal, refused, reply_of, cache_of, evicted_of, Previewed, totals_of};
+ghost use Rattle.std.specs.Prelude.{◌≤◌, ◌≡◌, length};
+ghost use Rattle.paging.specs.Numbers.{refusal_of};
+ghost use Rattle.queue.specs.Answers.{reply_answer, totals_answer};
+ghost use Rattle.queue.specs.Calls.{well_formed, request_refusal, reply_of, cache_of, evicted_of, Previewed, totals_of};
 ghost use Rattle.queue.specs.Serving.{empty_run};
-ghost use Rattle.queue.specs.inner.Cases.{found_in};
+ghost use Rattle.queue.specs.inner.Telling.{Told};
 
 use crate::serving::Found;
-use paging::{Keeping, Sizes};
+use paging::{Keeping, Outcome, Refusal, Sizes};
 
 mod serving;
 
 // Document 01's run record.
-#[derive(Clone, Copy)]
+#[derive(Clone, Copy, Debug, PartialEq, Eq)]
 pub struct Run {
     pub k: u32,
     pub a: u32,
@@ -42,20 +44,51 @@ impl Run {
             evictions: 0,
         }
     }
+
+    // The first refusal that holds of a request on this state, in document 01's order.
+    #[tactic(auto, using(crate::proofs::Refusals::check_rules))]
+    fn check(self, count: u32, cache: &[u32], evicted: &[u32]) -> Result<(), Refusal>
+        ensures { refusal_of result ≡ request_refusal self count cache.now evicted.now }
+    {
+        let k = self.k;
+        let a = self.a;
+        Sizes { k, a }.check()?;
+        if cache.len() < k as usize || evicted.len() < a as usize {
+            return Err(Refusal::TooLittleRoom);
+        }
+        if !self.well_formed(count, cache) {
+            return Err(Refusal::IllFormed);
+        }
+        if self.requests == Run::COUNTER_MAX {
+            return Err(Refusal::CounterFull);
+        }
+        Ok(())
+    }
+
+    // Whether the record, the count and the cache list, which has k places, are well formed.
+    #[tactic(auto, using(crate::proofs::Refusals::formed_rules))]
+    fn well_formed(self, count: u32, cache: &[u32]) -> bool
+        requires { self.k ≤ length cache.now }
+        ensures { result ≡ well_formed self count cache.now }
+    {
+        if count > self.k || self.evictions > self.loads || self.loads > self.requests {
+            return false;
+        }
+        repeats::no_page_twice_in_buffer(&cache[..count as usize])
+    }
 }
 
-// What a request answers. Accepted: refusal 0, the new record and count, and 0 for a hit, 1 for a load, 2 for a load after a bundle.
-// Refused: the refusal's number, and zeros.
-#[derive(Clone, Copy)]
+// What an accepted request answers: the new record and count, and what the request did.
+#[derive(Clone, Copy, Debug, PartialEq, Eq)]
 pub struct Reply {
-    pub refusal: u32,
     pub run: Run,
     pub count: u32,
-    pub answer: u32,
+    pub outcome: Outcome,
 }
 
 // One request. The cache list has its count beside it and is kept as said, the first page to go in front; the evicted list receives a bundle. The
-// request is told first, as a preview tells it, and then the page goes into the cache list.
+// request is told first, as a preview tells it, and then the page goes into the cache list. A refusal changes nothing. The record, the count and the two lists come as
+// the C interface lends them, one by one.
 pub fn request(
     keeping: Keeping,
     run: Run,
@@ -63,142 +96,71 @@ pub fn request(
     cache: &mut [u32],
     evicted: &mut [u32],
     page: u32,
-) -> Reply
-    ensures { (result ≡ reply_of keeping run count cache.old evicted.old page)
+) -> Result<Reply, Refusal>
+    ensures { (reply_answer result ≡ reply_of keeping run count cache.old evicted.old page)
         × ((cache.new ≡ cache_of keeping run count cache.old evicted.old page)
         × (evicted.new ≡ evicted_of run count cache.old evicted.old page)) }
 {
-    let told = tell(run, count, cache, evicted, page);
-    let reply = told.reply;
-    if reply.refusal != 0 {
-        return reply;
-    }
-    let found = told.found;
+    let (reply, found) = tell(run, count, cache, evicted, page)?;
     let k = run.k as usize;
     let a = run.a as usize;
     serving::settle(keeping, found, count as usize, k, a, cache, page);
-    reply
+    Ok(reply)
 }
 
 // What one request would answer and evict (document 02, request 05): the reply and the evicted list are those of `request` on a copy of the state,
 // for either way of keeping the list. Nothing is served, and a preview counts as no request: the reply has the copy's record and count, and whoever
 // hands these on has served by mistake.
-pub fn preview(run: Run, count: u32, cache: &[u32], evicted: &mut [u32], page: u32) -> Reply
-    ensures { Previewed run count cache.now evicted.old page result evicted.new }
+pub fn preview(
+    run: Run,
+    count: u32,
+    cache: &[u32],
+    evicted: &mut [u32],
+    page: u32,
+) -> Result<Reply, Refusal>
+    ensures { Previewed run count cache.now evicted.old page (reply_answer result) evicted.new }
 {
-    let told = tell(run, count, cache, evicted, page);
-    told.reply
+    let (reply, _) = tell(run, count, cache, evicted, page)?;
+    Ok(reply)
 }
 
-// A request's reply, and what the request found; of a refused one that says nothing.
-#[derive(Clone, Copy)]
-struct Told {
-    reply: Reply,
-    found: Found,
-}
-
-// All of a request but for the cache list: the refusals, what it finds, the bundle in the evicted list and the reply. One for request and preview, so
-// that the check, which takes most of the time of either, is there once.
-fn tell(run: Run, count: u32, cache: &[u32], evicted: &mut [u32], page: u32) -> Told
-    ensures { Previewed run count cache.now evicted.old page result.reply evicted.new
-        × (result.reply.refusal ≡ 0 → result.found ≡ found_in run.k page (take count cache.now)) }
+// All of a request but for the cache list: the refusals, the bundle in the evicted list, and the reply with what the request found. One for request and
+// preview, so that the check, which takes most of the time of either, is there once.
+#[tactic(auto, using(crate::proofs::Refusals::tell_rules))]
+fn tell(
+    run: Run,
+    count: u32,
+    cache: &[u32],
+    evicted: &mut [u32],
+    page: u32,
+) -> Result<(Reply, Found), Refusal>
+    ensures { Told run count cache.now evicted.old page result evicted.new }
 {
-    let number = refusal(run, count, cache, evicted, false);
-    if number != 0 {
-        return Told {
-            reply: refused(number),
-            found: Found::Room,
-        };
-    }
+    run.check(count, cache, evicted)?;
     let k = run.k as usize;
     let a = run.a as usize;
     let found = serving::decide(k, &cache[..count as usize], page);
     serving::evict(found, a, cache, evicted);
     let reply = serving::answered(found, run, count);
-    Told { reply, found }
+    Ok((reply, found))
 }
 
-fn refused(number: u32) -> Reply
-    ensures { result ≡ refused number }
-{
-    Reply {
-        refusal: number,
-        run: Run::empty(0, 0),
-        count: 0,
-        answer: 0,
-    }
-}
-
-// The number of the first refusal that holds, in document 01's order, or 0. `ill` is a further reason for 9.
-#[tactic(auto, using(crate::proofs::Refusals::number_rules))]
-fn refusal(run: Run, count: u32, cache: &[u32], evicted: &[u32], ill: bool) -> u32
-    ensures { result ≡ run_refusal run count cache.now evicted.now ill 0 }
-{
-    let k = run.k;
-    let a = run.a;
-    let sizes = Sizes { k, a }.refusal();
-    if sizes != 0 {
-        return sizes;
-    }
-    if cache.len() < k as usize {
-        return 8;
-    }
-    if evicted.len() < a as usize {
-        return 8;
-    }
-    if well_formed(run, count, cache) {} else {
-        return 9;
-    }
-    if ill {
-        return 9;
-    }
-    if run.requests == Run::COUNTER_MAX {
-        return 12;
-    }
-    0
-}
-
-// Whether the record, the count and the cache list, which has k places, are well formed.
-fn well_formed(run: Run, count: u32, cache: &[u32]) -> bool
-    requires { run.k ≤ length cache.now }
-    ensures { result ≡ well_formed run count cache.now }
-{
-    if count > run.k {
-        return false;
-    }
-    if run.evictions > run.loads {
-        return false;
-    }
-    if run.loads > run.requests {
-        return false;
-    }
-    repeats::no_page_twice_in_buffer(&cache[..count as usize])
-}
-
-// What a trace comes to: bundles and loads; or the refusal's number, and zeros.
-#[derive(Clone, Copy)]
+// What a trace comes to.
+#[derive(Clone, Copy, Debug, PartialEq, Eq)]
 pub struct Totals {
-    pub refusal: u32,
     pub bundles: u32,
     pub loads: u32,
 }
 
 // A whole trace, from the empty buffer.
-pub fn over_trace(keeping: Keeping, k: u32, a: u32, trace: &[u32]) -> Totals
-    ensures { result ≡ totals_of keeping k a trace.now }
+#[tactic(auto, using(crate::proofs::Refusals::totals_rules))]
+pub fn over_trace(keeping: Keeping, k: u32, a: u32, trace: &[u32]) -> Result<Totals, Refusal>
+    ensures { totals_answer result ≡ totals_of keeping k a trace.now }
 {
-    let number = Sizes { k, a }.trace_refusal(trace);
-    if number != 0 {
-        return Totals {
-            refusal: number,
-            bundles: 0,
-            loads: 0,
-        };
-    }
+    Sizes { k, a }.check_trace(trace)?;
     let run = serving::run_over(keeping, k, a, trace);
-    Totals {
-        refusal: 0,
+    Ok(Totals {
         bundles: run.evictions,
         loads: run.loads,
-    }
+    })
 }

@@ -2,24 +2,26 @@
 // state ready.
 ghost use Rattle.std.specs.Prelude.{◌-◌, ◌≤◌, ◌<◌, ◌≡◌, length, take};
 ghost use Rattle.lists.specs.Places.{moved_to_end, laid};
+ghost use Rattle.queue.specs.Answers.{accepted};
 ghost use Rattle.queue.specs.Serving.{counted_run, cache_served, evicted_served, reply_served};
 ghost use Rattle.queue.specs.Standing.{run_over};
 ghost use Rattle.queue.specs.inner.Cases.{found_in, loaded, reply_for, evicted_for, moved_from, cache_for};
 ghost use Rattle.queue.specs.inner.Ready.{RequestReady, AnswerReady, SettleReady, CountersFit, TraceReady};
 
 use crate::{Reply, Run};
-use paging::Keeping;
+use paging::{Keeping, Outcome};
 
 // What a request finds: the page at a place of the pages held, or absent with room for it, or absent with k pages held.
-#[derive(Clone, Copy)]
+#[derive(Clone, Copy, Debug, PartialEq, Eq)]
 pub enum Found {
     Held(usize),
     Room,
     Full,
 }
 
-// One request on a state that is ready for it: found, then served.
-pub(crate) fn step(
+// One request on a state that is ready for it: what it finds is decided, the bundle goes into the evicted list and the page into the cache list, and the
+// answer is told.
+fn step(
     keeping: Keeping,
     run: Run,
     count: u32,
@@ -28,32 +30,13 @@ pub(crate) fn step(
     page: u32,
 ) -> Reply
     requires { RequestReady run count cache.old evicted.old }
-    ensures { (result ≡ reply_served keeping run count cache.old page)
-        × ((cache.new ≡ cache_served keeping run count cache.old page)
-        × (evicted.new ≡ evicted_served run count cache.old evicted.old page)) }
-{
-    let k = run.k;
-    let found = decide(k as usize, &cache[..count as usize], page);
-    act(keeping, found, run, count, cache, evicted, page)
-}
-
-// Serves a request that was found to be this: the bundle goes into the evicted list, the page into the cache list, and the answer is told.
-pub(crate) fn act(
-    keeping: Keeping,
-    found: Found,
-    run: Run,
-    count: u32,
-    cache: &mut [u32],
-    evicted: &mut [u32],
-    page: u32,
-) -> Reply
-    requires { RequestReady run count cache.old evicted.old × (found ≡ found_in run.k page (take count cache.old)) }
-    ensures { (result ≡ reply_served keeping run count cache.old page)
+    ensures { (accepted result ≡ reply_served keeping run count cache.old page)
         × ((cache.new ≡ cache_served keeping run count cache.old page)
         × (evicted.new ≡ evicted_served run count cache.old evicted.old page)) }
 {
     let k = run.k as usize;
     let a = run.a as usize;
+    let found = decide(k, &cache[..count as usize], page);
     evict(found, a, cache, evicted);
     settle(keeping, found, count as usize, k, a, cache, page);
     answered(found, run, count)
@@ -68,31 +51,31 @@ pub(crate) fn run_over(keeping: Keeping, k: u32, a: u32, trace: &[u32]) -> Run
     let mut evicted = [0u32; Run::K_MAX as usize];
     let mut run = Run::empty(k, a);
     let mut count = 0u32;
-    let mut i = 0;
-    while i < trace.len() {
-        let reply = step(keeping, run, count, &mut cache, &mut evicted, trace[i]);
+    for &page in trace {
+        let reply = step(keeping, run, count, &mut cache, &mut evicted, page);
         run = reply.run;
         count = reply.count;
-        i += 1;
     }
     run
 }
 
-// The record after one more request, with the loads and bundles it made.
-fn counted(run: Run, loads: u32, bundles: u32) -> Run
-    requires { CountersFit run loads bundles }
-    ensures { result ≡ counted_run run loads bundles }
-{
-    Run {
-        k: run.k,
-        a: run.a,
-        requests: run.requests + 1,
-        loads: run.loads + loads,
-        evictions: run.evictions + bundles,
+impl Run {
+    // The record after one more request, with the loads and bundles it made.
+    fn counted(self, loads: u32, bundles: u32) -> Run
+        requires { CountersFit self loads bundles }
+        ensures { result ≡ counted_run self loads bundles }
+    {
+        Run {
+            requests: self.requests + 1,
+            loads: self.loads + loads,
+            evictions: self.evictions + bundles,
+            ..self
+        }
     }
 }
 
 // Which of hit, load and load after a bundle the request is, by the pages held.
+#[tactic(auto, using(crate::proofs::Served::finds_rules))]
 pub(crate) fn decide(k: usize, held: &[u32], page: u32) -> Found
     ensures { result ≡ found_in k page held.now }
 {
@@ -109,26 +92,23 @@ pub(crate) fn decide(k: usize, held: &[u32], page: u32) -> Found
 // What the request answers.
 pub(crate) fn answered(found: Found, run: Run, count: u32) -> Reply
     requires { AnswerReady found run count }
-    ensures { result ≡ reply_for found run count }
+    ensures { accepted result ≡ reply_for found run count }
 {
     match found {
         Found::Held(_) => Reply {
-            refusal: 0,
-            run: counted(run, 0, 0),
+            run: run.counted(0, 0),
             count,
-            answer: 0,
+            outcome: Outcome::Hit,
         },
         Found::Room => Reply {
-            refusal: 0,
-            run: counted(run, 1, 0),
+            run: run.counted(1, 0),
             count: count + 1,
-            answer: 1,
+            outcome: Outcome::Load,
         },
         Found::Full => Reply {
-            refusal: 0,
-            run: counted(run, 1, 1),
+            run: run.counted(1, 1),
             count: count - run.a + 1,
-            answer: 2,
+            outcome: Outcome::LoadAfterBundle,
         },
     }
 }
@@ -139,8 +119,7 @@ pub(crate) fn evict(found: Found, a: usize, cache: &[u32], evicted: &mut [u32])
     ensures { evicted.new ≡ evicted_for found a cache.now evicted.old }
 {
     match found {
-        Found::Held(_) => {}
-        Found::Room => {}
+        Found::Held(_) | Found::Room => {}
         Found::Full => {
             lists::moves::copy(&cache[..a], evicted);
         }

@@ -1,41 +1,35 @@
 -- `queue::request` meets its contract: told, and where it is not refused, settled in the cache list.
-use Rattle.queue.proofs.Refusals.{request_ready, request_refused, request_settled}
+use Rattle.std.proofs.Common.{◌≡◌, ◌∙◌, ap, Err}
+use Rattle.std.proofs.lemmas.Result.{err_from_is_err_and}
+use Rattle.queue.proofs.Refusals.{ready_of, request_refused, request_settled}
 use Rattle.queue.proofs.Served.{can_settle}
 use Rattle.queue.proofs.request.Goals as goal
 
-pub returns-then-reply-ne0 : goal.returns-then-reply-ne0
-returns-then-reply-ne0 c =
-    let keeping = c.args.keeping in
+pub returns-in_err-reply : goal.returns-in_err-reply
+returns-in_err-reply c =
     let run = c.args.run in
     let count = c.args.count in
     let cache = c.args.cache.now in
     let evicted = c.args.evicted.now in
-    let page = c.args.page in
-    let tell = c.tell-told in
-    request_refused run count cache evicted page keeping _ _ tell.ensures.0 c.if-reply-ne0.true
+    let told = c.in_err-reply.ensures in
+    let r = err_from_is_err_and c.from_residual.result c.from_residual.ensures.1 in
+    let e : c.from_residual.result ≡ Err c.in_err-reply.field-0.0 = r.1 ∙ ap Err r.2 in
+    rw e (request_refused run count cache evicted c.args.page c.args.keeping _ _ told.0 told.1)
 
 pub settle-requires : goal.settle-requires
 settle-requires c =
-    let keeping = c.args.keeping in
     let run = c.args.run in
     let count = c.args.count in
     let cache = c.args.cache.now in
     let evicted = c.args.evicted.now in
-    let page = c.args.page in
-    let tell = c.tell-told in
-    let if1 = c.if-reply-ne0 in
-    let ready = request_ready run count cache evicted page keeping _ _ tell.ensures.0 if1.false in
-    can_settle run count cache evicted page ready _ (tell.ensures.1 if1.false)
+    let told = c.in_ok-reply.ensures in
+    can_settle run count cache evicted c.args.page (ready_of run count cache evicted told.1.0) _ told.1.1
 
 pub returns : goal.returns
 returns c =
-    let keeping = c.args.keeping in
     let run = c.args.run in
     let count = c.args.count in
     let cache = c.args.cache.now in
     let evicted = c.args.evicted.now in
-    let page = c.args.page in
-    let tell = c.tell-told in
-    let if1 = c.if-reply-ne0 in
-    let settle = c.settle in
-    request_settled run count cache evicted page keeping _ _ tell.ensures.0 _ _ if1.false (tell.ensures.1 if1.false) settle.ensures
+    let told = c.in_ok-reply.ensures in
+    request_settled run count cache evicted c.args.page c.args.keeping _ _ told.0 _ _ told.1.0 told.1.1 c.settle.ensures

@@ -1,42 +1,19 @@
--- `queue::tell` meets its contract: refused, nothing has changed; else the state is ready, and what is decided is told.
-use native.Mathlib.Omega.{arith}
-use mathlib.Core.Path.{sym, ◌∙◌}
-use lib.ListN.{length-take}
-use Rattle.queue.proofs.Refusals.{ready_of, tell_refused, tell_accepted}
+-- `queue::tell` meets its contract: where nothing is refused the state is ready, and what is decided is told.
+use Rattle.std.proofs.Common.{sym, arith}
+use Rattle.std.proofs.lemmas.List.{length-take}
+use Rattle.queue.proofs.Refusals.{ready_of, tell_accepted}
 use Rattle.queue.proofs.Served.{told, can_answer}
 use Rattle.queue.proofs.tell.Goals as goal
 
-pub returns-then-number-ne0 : goal.returns-then-number-ne0
-returns-then-number-ne0 c =
-    let run = c.args.run in
-    let count = c.args.count in
-    let cache = c.args.cache.now in
-    let evicted = c.args.evicted.now in
-    let page = c.args.page in
-    let refusal = c.refusal-number in
-    tell_refused run count cache evicted page _ _ _ refusal.ensures c.if-number-ne0.true c.refused.ensures
-
 pub slice_bounds-decide-end : goal.slice_bounds-decide-end
 slice_bounds-decide-end c =
-    let run = c.args.run in
-    let count = c.args.count in
-    let cache = c.args.cache.now in
-    let evicted = c.args.evicted.now in
-    let refusal = c.refusal-number in
-    let if1 = c.if-number-ne0 in
-    let ready = ready_of run count cache evicted (sym refusal.ensures ∙ if1.false) in
-    simp length-take (omega arith)
+    let ready = ready_of c.args.run c.args.count c.args.cache.now c.args.evicted.now (sym c.in_ok-check.ensures) in
+    simp length-take (omega (arith, ready.count_most, ready.cache_room))
 
 pub evict-requires : goal.evict-requires
 evict-requires c =
-    let run = c.args.run in
-    let count = c.args.count in
-    let cache = c.args.cache.now in
-    let evicted = c.args.evicted.now in
-    let refusal = c.refusal-number in
-    let if1 = c.if-number-ne0 in
-    let ready = ready_of run count cache evicted (sym refusal.ensures ∙ if1.false) in
-    (omega (arith, ready.sizes.a_high, ready.cache_room), omega (arith, ready.evicted_room))
+    let ready = ready_of c.args.run c.args.count c.args.cache.now c.args.evicted.now (sym c.in_ok-check.ensures) in
+    (omega (arith, ready.sizes.a_high, ready.cache_room), ready.evicted_room)
 
 pub answered-reply-requires : goal.answered-reply-requires
 answered-reply-requires c =
@@ -44,12 +21,8 @@ answered-reply-requires c =
     let count = c.args.count in
     let cache = c.args.cache.now in
     let evicted = c.args.evicted.now in
-    let page = c.args.page in
-    let refusal = c.refusal-number in
-    let if1 = c.if-number-ne0 in
-    let ready = ready_of run count cache evicted (sym refusal.ensures ∙ if1.false) in
-    let decide = c.decide-found in
-    can_answer run count cache evicted page ready _ (omega arith) decide.ensures
+    let ready = ready_of run count cache evicted (sym c.in_ok-check.ensures) in
+    can_answer run count cache evicted c.args.page ready _ (omega arith) c.decide-found.ensures
 
 pub returns : goal.returns
 returns c =
@@ -58,10 +31,7 @@ returns c =
     let cache = c.args.cache.now in
     let evicted = c.args.evicted.now in
     let page = c.args.page in
-    let refusal = c.refusal-number in
-    let if1 = c.if-number-ne0 in
-    let ready = ready_of run count cache evicted (sym refusal.ensures ∙ if1.false) in
-    let decide = c.decide-found in
-    let evict = c.evict in
-    tell_accepted run count cache evicted page _ _ _ (sym refusal.ensures ∙ if1.false) decide.ensures
-    (told run count cache evicted page ready _ _ _ decide.ensures c.answered-reply.ensures evict.ensures)
+    let none = sym c.in_ok-check.ensures in
+    let found = c.decide-found.ensures in
+    tell_accepted run count cache evicted page _ _ _ none found
+    (told run count cache evicted page (ready_of run count cache evicted none) _ _ _ found c.answered-reply.ensures c.evict.ensures)

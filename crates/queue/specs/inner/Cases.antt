@@ -5,8 +5,8 @@ use Rattle.lists.specs.Pages.{mem}
 use Rattle.lists.specs.Places.{place, moved_to_end, laid}
 use Rattle.paging.specs.declared.Keeping.{Keeping}
 use Rattle.paging.specs.declared.Keeping.TheVariants.{ByRequest, ByLoad}
+use Rattle.queue.specs.Answers.{ReplyAnswer}
 use Rattle.queue.specs.Serving.{counted_run}
-use Rattle.queue.specs.declared.Reply.{Reply}
 use Rattle.queue.specs.declared.Run.{Run}
 use Rattle.queue.specs.declared.serving.Found.{Found}
 use Rattle.queue.specs.declared.serving.Found.TheVariants.{Held, Room, Full}
@@ -20,7 +20,7 @@ loaded out page held = drop out held ++ (page ∷ [])
 
 -- What is told and written for what was found
 
-abbrev pub reply_for : Found → Run → (count : ℕ) → Reply
+abbrev pub reply_for : Found → Run → (count : ℕ) → ReplyAnswer
 reply_for (Held at) run count = record { refusal = 0; run = counted_run run 0 0; count = count; answer = 0 }
 reply_for Room run count = record { refusal = 0; run = counted_run run 1 0; count = count + 1; answer = 1 }
 reply_for Full run count = record { refusal = 0; run = counted_run run 1 1; count = count - run.a + 1; answer = 2 }
