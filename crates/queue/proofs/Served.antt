@@ -1,17 +1,18 @@
 -- What the code finds is the request's kind, and what it then writes and answers is what the definitions say for that kind.
-use Prim.Native.Nat.{ℕ, ◌+◌, ◌-◌, ◌≤◌, ◌<◌}
+use Prim.Native.Nat.{ℕ, suc, ◌+◌, ◌-◌, ◌≤◌, ◌<◌}
 use native.Mathlib.Omega.{arith}
 use mathlib.Core.Bool.{true, false}
-use mathlib.Core.List.{List, [], ◌∷◌, ◌++◌}
+use mathlib.Core.List.{List, [], ◌∷◌, ◌++◌, append-nil}
 use mathlib.Core.Path.{◌≡◌, refl, sym, ap, ◌∙◌}
 use lib.Dec.{eqb, ltb}
 use lib.ListN.{length, take, drop, length-append, length-drop}
-use lib.Seq.{length-take-le, take-take}
+use lib.Seq.{length-take-le, take-take, take_all}
+use Rattle.std.proofs.Common.{drop_of_length-le}
 use borrow.Author.Tests.{lt-ltb, le-ltb, ltb-true, ltb-false, eqb-true}
 use Rattle.lists.specs.Pages.{mem}
 use Rattle.lists.specs.Places.{place, moved_to_end, laid}
 use Rattle.lists.proofs.Choice.{cases, tests}
-use Rattle.lists.proofs.Leaves.{mem_place, length_moved, moved_none, moved_to_end_lem}
+use Rattle.lists.proofs.Leaves.{mem_place, length_moved, moved_to_end_lem}
 use Rattle.lists.proofs.Pages.{erase_all_take}
 use Rattle.paging.specs.Policy.{after_hit}
 use Rattle.paging.specs.declared.Keeping.{Keeping}
@@ -70,6 +71,10 @@ pub ruleset finds_rules =
 pub hit_settled : (keeping : Keeping) (found : Found) (at from n k a page : ℕ) (cache y : List ℕ) → found ≡ Held at → from ≡ moved_from keeping at n
     → y ≡ laid k (moved_to_end from (take n cache)) cache → y ≡ cache_for keeping found n k a page cache
 hit_settled keeping found at from n k a page cache y f e h = rw (f, ← e) h
+
+-- from a place where no page stands none moves
+moved_none : (at : ℕ) (d : List ℕ) → length d ≤ at → d ≡ moved_to_end at d
+moved_none at d h = rw (take_all at d h, drop_of_length-le d {i = suc at} (omega arith), drop_of_length-le d {i = at} h) (simp append-nil)
 
 -- Writing and answering: y and v are the cache list and the evicted list as they were left
 
