@@ -1,5 +1,5 @@
 -- What the inner functions of src/lib.rt do to the rows: the definitions of the model, in the steps in which the code takes them.
-use Rattle.std.specs.Prelude.{ℕ, ◌-◌, ◌≤◌, min, false, List, [], ◌∷◌, ◌++◌, map, ◌≡◌, eqb, ltb, length}
+use Rattle.std.specs.Prelude.{ℕ, ◌-◌, ◌≤◌, min, List, [], ◌∷◌, ◌++◌, map, Option, is_none, IfSome, ◌≡◌, eqb, ltb, length}
 use Rattle.lists.specs.Choice.{pick}
 use Rattle.lists.specs.Pages.{filter}
 use Rattle.lists.specs.Sorting.{Row, sort_rows}
@@ -17,6 +17,12 @@ abbrev pub rule_of : RuleApplied → LayerRule
 rule_of Append = append
 rule_of Join = join
 rule_of Lift = lift
+
+-- the number that an accepted request answers (document 02, request 02): 1 for rule 1a, 2 for 1b, 3 for 1c
+abbrev pub rule_number : LayerRule → ℕ
+rule_number append = 1
+rule_number join = 2
+rule_number lift = 3
 
 -- sizes that were judged, and an s that they allow
 pub record Sound (k a s : ℕ) : Type 0 where
@@ -62,10 +68,14 @@ moved change rows = filter above_zero (map (row_moved change) rows)
 abbrev pub served : Change → (top : ℕ) → List Row → List Row
 served change top rows = sort_rows (moved change rows) ++ (row_at top change.page ∷ [])
 
+-- what a step that was done answers
+pub record DoneBy (k a s p : ℕ) (before : List Row) (t : Stepped) : Type 0 where
+  pub rule_told : rule_of t.rule ≡ rule_in k s p before
+  pub top_told : t.s ≡ top_after (rule_in k s p before) k a s
+  pub used_told : t.used ≡ length (rows_after k a s p before)
+
 -- what a step answers, and the rows that it leaves. A table with too few places is left as it was
-pub record SteppedTo (k a s p places : ℕ) (before after : List Row) (r : Stepped) : Type 0 where
-  pub full_told : r.full ≡ ltb places (length (rows_after k a s p before))
-  pub rule_told : rule_of r.rule ≡ rule_in k s p before
-  pub top_told : r.s ≡ pick r.full 0 (top_after (rule_in k s p before) k a s)
-  pub rows_told : after ≡ pick r.full before (table_of places (rows_after k a s p before))
-  pub used_told : r.full ≡ false → r.used ≡ length (rows_after k a s p before)
+pub record SteppedTo (k a s p places : ℕ) (before after : List Row) (r : Option Stepped) : Type 0 where
+  pub full_told : is_none r ≡ ltb places (length (rows_after k a s p before))
+  pub rows_told : after ≡ pick (is_none r) before (table_of places (rows_after k a s p before))
+  pub done_told : IfSome r (λ t. DoneBy k a s p before t)

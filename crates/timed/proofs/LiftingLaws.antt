@@ -4,12 +4,13 @@ use Prim.Native.Nat.{ℕ, zero, suc, ◌+◌, ◌-◌, ◌≤◌, ◌<◌, min}
 use native.Mathlib.Numerals.{add-one}
 use native.Mathlib.Omega.{arith}
 use mathlib.Core.Bool.{Bool, true, false, not}
-use mathlib.Core.List.{List, [], ◌∷◌, ◌++◌, map, append_assoc}
+use mathlib.Core.List.{List, [], ◌∷◌, ◌++◌, map, append_assoc, append-nil}
 use mathlib.Core.Path.{◌≡◌, refl, sym, ap, ◌∙◌}
+use Rattle.std.specs.Prelude.{Some}
 use lib.Dec.{eqb, leb, ltb}
-use lib.ListN.{length, take, drop, get_or, set, replicate, length-append, length-take, length-drop, length-replicate, length-set}
+use lib.ListN.{length, take, drop, get_or, set, replicate, length-append, length-take, length-drop, length-replicate, length-set, drop_of_length-le}
 use lib.ListN.{take-append-drop, length-map, replicate-append-replicate}
-use lib.Seq.{take-nil, drop-cons, take-suc, take-take, length-take-le, take_at, drop_at, set_at, get_or_at, get_or-take, drop-drop, drop-append-le, take-append-le}
+use lib.Seq.{take-nil, drop-cons, take-suc, take-take, length-take-le, take_at, take_all, drop_at, set_at, get_or_at, get_or-take, drop-drop, drop-append-le, take-append-le}
 use mir.Val.{bool_byte}
 use borrow.Author.Tests.{eqb-true, lt-ltb, le-ltb, not-true, ne_eqb}
 use Rattle.lists.specs.Pages.{mem, distinct, count, filter}
@@ -81,8 +82,10 @@ module _ (g : ℕ → ℕ) (ns₀ ns : List ℕ) (j : ℕ) (h : j < length ns₀
       (sym (append_assoc (map g (take j ns₀)) (g (get_or ns₀ j 0) ∷ []) (drop (suc j) ns₀))) in
       record { long = length-set ns j _ ∙ L.long; shape = rw is shape }
 
-pub lowering_end : (g : ℕ → ℕ) (ns₀ ns : List ℕ) (j end : ℕ) → end ≤ j → j ≤ end → Lowering g ns₀ ns j → ns ≡ map g (take end ns₀) ++ drop end ns₀
-lowering_end g ns₀ ns j end h l L = let e : j ≡ end = omega arith in rw e at L.shape
+pub lowering_end : (g : ℕ → ℕ) (ns₀ ns : List ℕ) (j : ℕ) → length ns₀ ≤ j → Lowering g ns₀ ns j → ns ≡ map g ns₀
+lowering_end g ns₀ ns j h L =
+    let none : drop j ns₀ ≡ [] = drop_of_length-le ns₀ {i = j} h in
+    rw (take_all j ns₀ h, none, append-nil (map g ns₀)) at L.shape
 
 pub one_less_from : (i n : ℕ) → n - bool_byte (leb i n) ≡ less_from i n
 one_less_from i n = cases (leb i n) (λ e. rw e) (λ e. rw e (omega arith))
@@ -95,9 +98,8 @@ most_next limit ns j found h e =
     rw (add-one j, take-suc ns j 0 h, count_snoc (λ n. leb n limit) (take j ns) (get_or ns j 0))
     (cases (leb (get_or ns j 0) limit) (λ g. rw g (omega arith)) (λ g. rw g (omega arith)))
 
-pub most_end : (limit : ℕ) (ns : List ℕ) (j end found : ℕ) → end ≤ j → j ≤ end → found ≡ count (λ n. leb n limit) (take j ns)
-    → found ≡ count (λ n. leb n limit) (take end ns)
-most_end limit ns j end found h g e = let same : j ≡ end = omega arith in rw same at e
+pub most_end : (limit : ℕ) (ns : List ℕ) (j found : ℕ) → length ns ≤ j → found ≡ count (λ n. leb n limit) (take j ns) → found ≡ count (λ n. leb n limit) ns
+most_end limit ns j found h e = rw (take_all j ns h) at e
 
 pub most_few : (limit : ℕ) (ns : List ℕ) (j found : ℕ) → found ≡ count (λ n. leb n limit) (take j ns) → found ≤ j
 most_few limit ns j found e = omega (arith, count_length (λ n. leb n limit) (take j ns), length-take j ns)
@@ -451,16 +453,14 @@ module _ (k a s p t at used : ℕ) (ns ps ts : List ℕ) (R : TimedReady k a s p
       → length ps' ≡ length ps → length ns' ≡ length ps → rows_of ns' ps' ≡ table_of (length ps) (X ++ (row_at s p ∷ []))
       → ts' ≡ map (t0_after t p (take used (rows_of ns ps)) ts) (pages_of X)
       ++ (t0_after t p (take used (rows_of ns ps)) ts p ∷ replicate (length ps - suc (length X)) 0)
-      → TimedTo k a s p t used ns ps ts ns' ps' ts' (record { full = false; rule = Lift; s = s; used = n })
+      → TimedTo k a s p t used ns ps ts ns' ps' ts' (Some (record { rule = Lift; s = s; used = n }))
   lift_told X n ns' ps' ts' after m room lp ln rows times =
       let many : length (rows_after k a s p (rows_of ns ps)) ≡ n = rw (after, length-append X (row_at s p ∷ [])) m in
       timed_served k a s p t at used ns ps ts R ns' ps' ts' _ lp ln
       (record {
         full_told = rw many (sym (le-ltb (length ps) n room));
-        rule_told = sym rule_lift;
-        top_told = rw rule_lift;
         rows_told = rows ∙ ap (table_of (length ps)) (sym after);
-        used_told = λ _. sym many;
+        done_told = record { rule_told = sym rule_lift; top_told = rw rule_lift; used_told = sym many };
       }) s X refl after times
 
   module _ (ns₁ ps₁ ts₁ : List ℕ) (T : TakenOut at used (get_or ns at 0) s ns ps ts ns₁ ps₁ ts₁) where
@@ -479,7 +479,7 @@ module _ (k a s p t at used : ℕ) (ns ps ts : List ℕ) (R : TimedReady k a s p
     lowest_timed : (gone : ℕ) (ms ys zs : List ℕ) → get_or ns at 0 ≡ 1 → gone ≡ count (λ n. leb n 0) (take (used - 1) ns₁)
         → ys ≡ first_dropped gone (take used ps₁) → ms ≡ first_dropped gone (take used ns₁) → zs ≡ first_dropped gone (take used ts₁)
         → TimedTo k a s p t used ns ps ts (ms ++ drop used ns₁) (ys ++ drop used ps₁) (zs ++ drop used ts₁)
-        (record { full = false; rule = Lift; s = s; used = used - gone })
+        (Some (record { rule = Lift; s = s; used = used - gone }))
     lowest_timed gone ms ys zs one eg ey em ez =
         let t0 : ℕ → ℕ = t0_after t p (take used (rows_of ns ps)) ts in
         let O = others at used ps in
@@ -530,7 +530,7 @@ module _ (k a s p t at used : ℕ) (ns ps ts : List ℕ) (R : TimedReady k a s p
       ends_fit = let w = ends in let l = others_length at used ps h R.filled.fits in let f = R.filled.fits in (w.0, omega (arith, w.1))
 
       pub higher_timed : (ps₂ ts₂ : List ℕ) → SortedBeside from to ps₁ ts₁ ps₂ ts₂ → length ps₂ ≡ length ps → length ns₁ ≡ length ps
-          → TimedTo k a s p t used ns ps ts ns₁ ps₂ ts₂ (record { full = false; rule = Lift; s = s; used = used })
+          → TimedTo k a s p t used ns ps ts ns₁ ps₂ ts₂ (Some (record { rule = Lift; s = s; used = used }))
       higher_timed ps₂ ts₂ sorted lp ln =
           let t0 : ℕ → ℕ = t0_after t p (take used (rows_of ns ps)) ts in
           let O = others at used ps in
@@ -576,7 +576,7 @@ module _ (k a s p t at used : ℕ) (ns ps ts : List ℕ) (R : TimedReady k a s p
       → gone ≡ count (λ n. leb n 0) (take (used - 1) ns₁)
       → ys ≡ first_dropped gone (take used ps₁) → ms ≡ first_dropped gone (take used ns₁) → zs ≡ first_dropped gone (take used ts₁)
       → TimedTo k a s p t used ns ps ts (ms ++ drop used ns₁) (ys ++ drop used ps₁) (zs ++ drop used ts₁)
-      (record { full = false; rule = Lift; s = s; used = used - gone })
+      (Some (record { rule = Lift; s = s; used = used - gone }))
   lowest_lifted ns₁ ps₁ ts₁ gone ms ys zs one T eg ey em ez = lowest_timed ns₁ ps₁ ts₁ (rw one T) gone ms ys zs one eg ey em ez
 
 -- as many as are counted fit

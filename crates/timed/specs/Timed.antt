@@ -1,5 +1,5 @@
 -- One request on the layers' table with t0 of each page in a third list beside it, on a table in order.
-use Rattle.std.specs.Prelude.{ℕ, ◌-◌, true, List, ◌++◌, ◌≡◌, length, take, drop, replicate}
+use Rattle.std.specs.Prelude.{ℕ, ◌-◌, true, List, ◌++◌, Option, is_none, ◌≡◌, length, take, drop, replicate}
 use Rattle.lists.specs.Choice.{pick}
 use Rattle.lists.specs.Pages.{distinct}
 use Rattle.lists.specs.Places.{place}
@@ -20,9 +20,9 @@ pub record TimedReady (k a s p at used : ℕ) (numbers pages times : List ℕ) :
   pub blank : drop used times ≡ replicate (length pages - used) 0
 
 -- the table is as after any step, and beside each of its pages stands its t0; a table with too few places is left as it was
-pub record TimedTo (k a s p t used : ℕ) (numbers pages times numbers' pages' times' : List ℕ) (r : Stepped) : Type 0 where
+pub record TimedTo (k a s p t used : ℕ) (numbers pages times numbers' pages' times' : List ℕ) (r : Option Stepped) : Type 0 where
   pub table : SteppedTo k a s p (length pages) (rows_of numbers pages) (rows_of numbers' pages') r
-  pub times_told : times' ≡ pick r.full times
+  pub times_told : times' ≡ pick (is_none r) times
       (times_after t p (take used (rows_of numbers pages)) (rows_after k a s p (rows_of numbers pages)) times
       ++ replicate (length pages - length (rows_after k a s p (rows_of numbers pages))) 0)
   pub pages_length : length pages' ≡ length pages

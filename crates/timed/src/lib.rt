@@ -9,7 +9,8 @@ use table::Stepped;
 pub mod joining;
 pub mod lifting;
 
-// Serves a request for a page whose first place among the used ones is `at`, `used` if it has none. A page that had no row gets the time.
+// Serves a request for a page whose first place among the used ones is `at`, `used` if it has none. A page that had no row gets the time. Where the
+// table has no room, nothing is done.
 pub fn step(
     k: u32,
     a: u32,
@@ -21,7 +22,7 @@ pub fn step(
     pages: &mut [u32],
     numbers: &mut [u32],
     times: &mut [u32],
-) -> Stepped
+) -> Option<Stepped>
     requires { TimedReady k a s page at used numbers.old pages.old times.old }
     ensures { TimedTo k a s page time used numbers.old pages.old times.old
         numbers.new pages.new times.new result }

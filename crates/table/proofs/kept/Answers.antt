@@ -9,26 +9,26 @@ use Rattle.table.proofs.kept.Goals as goal
 pub overflow_add-n : goal.overflow_add-n
 overflow_add-n c =
     let args = c.args in
-    let loop = c.loop-i in
-    let lost = c.lost-most in
-    let one = byte_one (not (eqb (get_or args.pages.now loop.i 0) args.change.page) && ltb lost.result (get_or args.numbers.now loop.i 0)) in
+    let i = c.loop-i.i in
+    let told = c.from-n.ensures in
+    let one = byte_one (not (eqb (get_or args.pages.now i 0) args.change.page) && ltb c.lost-most.result (get_or args.numbers.now i 0)) in
     omega arith
 
 pub loop-i-preserved : goal.loop-i-preserved
 loop-i-preserved c =
     let args = c.args in
-    let loop = c.loop-i in
+    let i = c.loop-i.i in
     let lost = c.lost-most in
-    let one = byte_one (not (eqb (get_or args.pages.now loop.i 0) args.change.page) && ltb lost.result (get_or args.numbers.now loop.i 0)) in
-    let small = c.type_inv.numbers loop.i in (
+    let told = c.from-n.ensures in
+    let one = byte_one (not (eqb (get_or args.pages.now i 0) args.change.page) && ltb lost.result (get_or args.numbers.now i 0)) in
+    let small = c.type_inv.numbers i in (
       omega arith,
-      omega arith,
-      kept_next args.change args.numbers.now args.pages.now loop.i loop.n lost.result c.requires c.loop-i-test.true
-          (lost.ensures.told (get_or args.numbers.now loop.i 0) (omega arith)) loop.invariant.2,
+      rw told
+          (kept_next args.change args.numbers.now args.pages.now i c.loop-i.n lost.result c.requires c.loop-i-test.true
+          (lost.ensures.told (get_or args.numbers.now i 0) (omega arith)) c.loop-i.invariant.1),
     )
 
 pub returns : goal.returns
 returns c =
     let args = c.args in
-    let loop = c.loop-i in
-    kept_end args.change args.numbers.now args.pages.now loop.i _ c.requires c.loop-i-test.false loop.invariant.2
+    kept_end args.change args.numbers.now args.pages.now c.loop-i.i _ c.requires c.loop-i-test.false c.loop-i.invariant.1

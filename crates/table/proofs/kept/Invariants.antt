@@ -1,4 +1,4 @@
-use Prim.Native.Nat.{◌≤◌, ◌-◌}
+use Prim.Native.Nat.{◌≤◌}
 use mathlib.Core.Path.{◌≡◌}
 use lib.ListN.{length, take}
 use Rattle.paging.specs.Rows.{rows_of}
@@ -6,7 +6,4 @@ use Rattle.table.specs.Serving.{moved}
 use Rattle.table.proofs.kept.Given as goal
 
 abbrev pub invariant-loop-i : goal.invariant-loop-i
-invariant-loop-i l = (l.i ≤ length l.pages) × (l.n ≤ l.i) × (l.n ≡ length (moved l.change (take l.i (rows_of l.numbers l.pages))))
-
-abbrev pub decreases-loop-i : goal.decreases-loop-i
-decreases-loop-i l = length l.pages - l.i
+invariant-loop-i l = (l.n ≤ l.i) × (l.n ≡ length (moved l.change (take l.i (rows_of l.numbers l.pages))))

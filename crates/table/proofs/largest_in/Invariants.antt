@@ -1,12 +1,9 @@
-use Prim.Native.Nat.{◌≤◌, ◌-◌, max}
+use Prim.Native.Nat.{max}
 use mathlib.Core.Path.{◌≡◌}
-use lib.ListN.{length, drop}
+use lib.ListN.{drop}
 use Rattle.paging.specs.Rows.{rows_of}
 use Rattle.paging.specs.Table.{number_in}
 use Rattle.table.proofs.largest_in.Given as goal
 
 abbrev pub invariant-loop-i : goal.invariant-loop-i
-invariant-loop-i l = (l.i ≤ length l.pages) × (max l.best (number_in (drop l.i (rows_of l.numbers l.pages)) l.page) ≡ number_in (rows_of l.numbers l.pages) l.page)
-
-abbrev pub decreases-loop-i : goal.decreases-loop-i
-decreases-loop-i l = length l.pages - l.i
+invariant-loop-i l = max l.best (number_in (drop l.i (rows_of l.numbers l.pages)) l.page) ≡ number_in (rows_of l.numbers l.pages) l.page

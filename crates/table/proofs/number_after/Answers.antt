@@ -6,10 +6,9 @@ pub returns-then-page-change : goal.returns-then-page-change
 returns-then-page-change c = rw (eq-eqb _ _ c.if-page-change.true)
 
 pub overflow_sub-result : goal.overflow_sub-result
-overflow_sub-result c = lowered_fits _ _
+overflow_sub-result c = rw c.from.ensures (lowered_fits c.args.change.above c.min-low.result)
 
 pub returns : goal.returns
 returns c =
     let change = c.args.change in
-    let joined = c.joined-low in
-    rw (ne_eqb _ _ c.if-page-change.false) (lowered_is change.above joined.result _ joined.ensures)
+    rw (ne_eqb _ _ c.if-page-change.false, c.from.ensures) (lowered_is change.above c.min-low.result _ c.min-low.ensures)

@@ -1,44 +1,44 @@
 use native.Mathlib.Omega.{arith}
 use Rattle.table.proofs.Serving.{renumbering_start, turn_drops, turn_keeps, renumbering_end}
 use Rattle.table.proofs.renumber.Goals as goal
+use Rattle.table.proofs.renumber.Goals.{then-number-gt0, else-number-gt0}
 
 pub loop-from-init : goal.loop-from-init
-loop-from-init c = (omega arith, omega arith, omega arith, renumbering_start _ _)
+loop-from-init c = (omega arith, omega arith, renumbering_start _ _)
 
 pub put_row-requires-then-number-gt0 : goal.put_row-requires-then-number-gt0
-put_row-requires-then-number-gt0 c =
-    (omega arith, omega arith)
-
-pub loop-from-preserved-then-number-gt0 : goal.loop-from-preserved-then-number-gt0
-loop-from-preserved-then-number-gt0 c =
-    let args = c.args in
-    let loop = c.loop-from in
-    let number-after = c.number_after-number in
-    let put-row = c.put_row in
-    let put-row2 = c.put_row-then-number-gt0 in
-    let if1 = c.if-number-gt0 in (
-      omega arith,
-      omega arith,
-      omega arith,
-      turn_keeps args.change args.numbers.now args.pages.now loop.numbers loop.pages loop.to loop.from _ c.requires loop.invariant.0 loop.invariant.1 (omega arith)
-          loop.invariant.3 number-after.ensures _ _ if1.true put-row.ensures put-row2.ensures,
-    )
+put_row-requires-then-number-gt0 c = (omega arith, omega arith)
 
 pub loop-from-preserved : goal.loop-from-preserved
 loop-from-preserved c =
     let args = c.args in
     let loop = c.loop-from in
-    let number-after = c.number_after-number in
-    let put-row = c.put_row in (
-      omega arith,
-      omega arith,
-      omega arith,
-      turn_drops args.change args.numbers.now args.pages.now loop.numbers loop.pages loop.to loop.from _ c.requires loop.invariant.0 loop.invariant.1 (omega arith)
-          loop.invariant.3 number-after.ensures _ c.if-number-gt0.false put-row.ensures,
-    )
+    let number = c.number_after-number in
+    let freed = c.put_row in
+    elim c.if-number-gt0.branch [
+      | then-number-gt0 w ↦
+          let put = w.put_row-then-number-gt0 in
+          let pages = w.pages-is in
+          let numbers = w.numbers-is in (
+            omega arith,
+            omega arith,
+            rw (w.pages-is, w.numbers-is, w.to-is)
+                (turn_keeps args.change args.numbers.now args.pages.now loop.numbers loop.pages loop.to loop.from _ c.requires loop.invariant.0 loop.invariant.1 (omega arith)
+                loop.invariant.2 number.ensures _ _ w.if-number-gt0.true freed.ensures put.ensures),
+          )
+      | else-number-gt0 w ↦
+          let pages = w.pages-is in
+          let numbers = w.numbers-is in (
+            omega arith,
+            omega arith,
+            rw (w.pages-is, w.numbers-is, w.to-is)
+                (turn_drops args.change args.numbers.now args.pages.now loop.numbers loop.pages loop.to loop.from _ c.requires loop.invariant.0 loop.invariant.1 (omega arith)
+                loop.invariant.2 number.ensures _ w.if-number-gt0.false freed.ensures),
+          )
+    ]
 
 pub returns : goal.returns
 returns c =
     let args = c.args in
     let loop = c.loop-from in
-    renumbering_end args.change args.numbers.now args.pages.now loop.numbers loop.pages loop.to loop.from c.requires (omega arith) (omega arith) loop.invariant.3
+    renumbering_end args.change args.numbers.now args.pages.now loop.numbers loop.pages loop.to loop.from c.requires (omega arith) (omega arith) loop.invariant.2

@@ -1,4 +1,3 @@
-use Prim.Native.Nat.{◌≤◌, ◌-◌}
 use mathlib.Core.Path.{◌≡◌}
 use lib.ListN.{length}
 use Rattle.paging.specs.Rows.{rows_of}
@@ -7,8 +6,5 @@ use Rattle.table.proofs.renumber.Given as goal
 
 abbrev pub invariant-loop-from : goal.invariant-loop-from
 invariant-loop-from l =
-    (length l.pages ≡ length l.initial.pages) × (length l.numbers ≡ length l.initial.numbers) × (l.from ≤ length l.initial.pages) ×
+    (length l.pages ≡ length l.initial.pages) × (length l.numbers ≡ length l.initial.numbers) ×
     Renumbering l.change (rows_of l.initial.numbers l.initial.pages) (rows_of l.numbers l.pages) l.to l.from
-
-abbrev pub decreases-loop-from : goal.decreases-loop-from
-decreases-loop-from l = length l.initial.pages - l.from
