@@ -3,8 +3,11 @@ use Prim.Native.Nat.{ℕ, ◌-◌, ◌≤◌, ◌<◌}
 use native.Mathlib.Omega.{arith}
 use mathlib.Core.Bool.{true, false}
 use mathlib.Core.Path.{◌≡◌, refl, sym}
-use lib.Dec.{leb, ltb}
+use lib.Dec.{eqb, leb, ltb}
 use borrow.Author.Tests.{lt-ltb, le-ltb, eq-eqb, ne_eqb}
+use Rattle.std.proofs.Common.{Ordering, Less, Equal, Greater}
+use Rattle.std.specs.Ordering.{is_lt, ordering_then, partial_ordering_then, nat_cmp, is_some_and}
+use Rattle.std.proofs.Common.{Some}
 use Rattle.lists.specs.Choice.{◌and◌, ◌or◌}
 use Rattle.lists.proofs.Choice.{tests, cases, and_false_r}
 use Rattle.marking.specs.Marking.{Cached, sooner}
@@ -23,17 +26,26 @@ revealed_past at used shown h = sym (and_false_r _ _ (le-ltb at used h))
 
 -- Which of two cached pages leaves first
 
-pub sooner_page : (x y : Cached) → x.mark ≡ y.mark → x.priority ≡ y.priority → ltb x.page y.page ≡ sooner x y
-unfolding sooner ◌and◌ ◌or◌
-sooner_page x y e f =
-    rw (le-ltb x.mark y.mark (omega arith), eq-eqb x.mark y.mark e, le-ltb x.priority y.priority (omega arith), eq-eqb x.priority y.priority f)
+-- two fields compared one after the other
+then_some : (o p : Ordering) → partial_ordering_then (Some o) (Some p) ≡ Some (ordering_then o p)
+then_some Less p = refl
+then_some Equal p = refl
+then_some Greater p = refl
 
-pub sooner_priority : (x y : Cached) → x.mark ≡ y.mark → (x.priority ≡ y.priority → ⊥) → ltb x.priority y.priority ≡ sooner x y
-unfolding sooner ◌and◌ ◌or◌
-sooner_priority x y e f =
-    rw (le-ltb x.mark y.mark (omega arith), eq-eqb x.mark y.mark e, ne_eqb x.priority y.priority f)
-    (cases (ltb x.priority y.priority) (λ t. rw t) (λ t. rw t))
+then_less : (a b : ℕ) (o : Ordering) → is_lt (ordering_then (nat_cmp a b) o) ≡ ltb a b or (eqb a b and is_lt o)
+unfolding ◌and◌ ◌or◌
+then_less a b o = grind (arith, nat_cmp)
 
-pub sooner_mark : (x y : Cached) → (x.mark ≡ y.mark → ⊥) → ltb x.mark y.mark ≡ sooner x y
-unfolding sooner ◌and◌ ◌or◌
-sooner_mark x y e = rw (ne_eqb x.mark y.mark e) (cases (ltb x.mark y.mark) (λ t. rw t) (λ t. rw t))
+less : (a b : ℕ) → is_lt (nat_cmp a b) ≡ ltb a b
+less a b = grind (arith, nat_cmp)
+
+-- the order of the fields is the order in which pages leave
+pub fields_in_order : (x y : Cached)
+    → is_some_and is_lt (partial_ordering_then (Some (nat_cmp x.mark y.mark)) (partial_ordering_then (Some (nat_cmp x.priority y.priority)) (Some (nat_cmp x.page y.page))))
+    ≡ sooner x y
+unfolding sooner
+fields_in_order x y =
+    let later = nat_cmp x.priority y.priority in
+    let last = nat_cmp x.page y.page in
+    rw (then_some later last, then_some (nat_cmp x.mark y.mark) (ordering_then later last), then_less x.mark y.mark (ordering_then later last),
+    then_less x.priority y.priority last, less x.page y.page) refl

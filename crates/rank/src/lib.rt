@@ -7,14 +7,29 @@ ghost use Rattle.lists.specs.Choice.{pick, ◌and◌};
 ghost use Rattle.paging.specs.Refusals.{full_counter};
 ghost use Rattle.marking.specs.Marking.{cached_at, sooner};
 
+// A cached page with what stands beside it. The order of the fields is that in which pages leave: unmarked ones first, then the lower priority, then the
+// lower page.
+#[derive(Clone, Copy, PartialEq, Eq, PartialOrd, Ord)]
+pub struct CachedPage {
+    pub mark: u32,
+    pub priority: u64,
+    pub page: u32,
+}
+
+impl CachedPage {
+    // Whether it leaves before the other.
+    pub fn leaves_before(self, other: CachedPage) -> bool
+        ensures { result ≡ sooner (cached_at self.page self.mark self.priority) (cached_at other.page other.mark other.priority) }
+    {
+        self < other
+    }
+}
+
 // Whether the page at a place of the table is revealed: it is one of the last so many used places.
 pub fn is_revealed(at: usize, used: usize, revealed: usize) -> bool
     ensures { result ≡ (leb (used - revealed) at and ltb at used) }
 {
-    if at < used {
-        return used - at <= revealed;
-    }
-    false
+    at < used && used - at <= revealed
 }
 
 // The time: it rises at each request of a page that was not revealed.
@@ -22,10 +37,7 @@ pub fn time_after(t: u32, revealed: bool) -> u32
     requires { t < full_counter }
     ensures { result ≡ pick revealed t (t + 1) }
 {
-    if revealed {
-        return t;
-    }
-    t + 1
+    if revealed { t } else { t + 1 }
 }
 
 // t0 of the page: as it stands beside its place in the table, and the present time where it has none.
@@ -33,10 +45,7 @@ pub fn t0_of(times: &[u32], at: usize, used: usize, t: u32) -> u32
     requires { used ≤ length times.now }
     ensures { result ≡ pick (ltb at used) (get_or times.now at 0) t }
 {
-    if at < used {
-        return times[at];
-    }
-    t
+    if at < used { times[at] } else { t }
 }
 
 // RDM: nine times the time less t0.
@@ -44,7 +53,7 @@ pub fn priority(t: u32, t0: u32) -> u64
     requires { t0 ≤ t }
     ensures { result ≡ 9 * t - t0 }
 {
-    9 * (t as u64) - t0 as u64
+    9 * u64::from(t) - u64::from(t0)
 }
 
 // How many pages are revealed after a request: one after a 1b, else one more if the page was not.
@@ -53,30 +62,10 @@ pub fn revealed_after(joined: bool, revealed: bool, before: usize) -> usize
     ensures { result ≡ pick joined 1 (pick revealed before (before + 1)) }
 {
     if joined {
-        return 1;
+        1
+    } else if revealed {
+        before
+    } else {
+        before + 1
     }
-    if revealed {
-        return before;
-    }
-    before + 1
-}
-
-// Whether a cached page leaves before another: unmarked ones first, then the lower priority, then the lower page.
-pub fn leaves_before(
-    page: u32,
-    mark: u32,
-    priority: u64,
-    page2: u32,
-    mark2: u32,
-    priority2: u64,
-) -> bool
-    ensures { result ≡ sooner (cached_at page mark priority) (cached_at page2 mark2 priority2) }
-{
-    if mark == mark2 {
-        if priority == priority2 {
-            return page < page2;
-        }
-        return priority < priority2;
-    }
-    mark < mark2
 }
