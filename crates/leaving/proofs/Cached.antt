@@ -82,7 +82,7 @@ map_gone f (suc r) (x ∷ xs) = ap (λ (l : List ℕ). f x ∷ l) (map_gone f r 
 
 -- Entries that stand in front of a list
 
-pub behind_on : (n k : ℕ) (xs ys : List ℕ) → n ≤ k → drop n xs ≡ drop n ys → drop k xs ≡ drop k ys
+pub behind_on : {A : Type 0} (n k : ℕ) (xs ys : List A) → n ≤ k → drop n xs ≡ drop n ys → drop k xs ≡ drop k ys
 behind_on n k xs ys h e =
     let s : n + (k - n) ≡ k = omega arith in
     ap (λ (i : ℕ). drop i xs) (sym s) ∙ sym (drop-drop (k - n) n xs) ∙ ap (drop (k - n)) e ∙ drop-drop (k - n) n ys ∙ ap (λ (i : ℕ). drop i ys) s

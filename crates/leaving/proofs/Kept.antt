@@ -24,64 +24,64 @@ kept_none {ℓ} : {A : Type ℓ} (flags : List ℕ) → kept_by {A = A} flags []
 kept_none [] = refl
 kept_none (f ∷ fs) = refl
 
-kept_more : (flags xs : List ℕ) (i : ℕ) → i < length flags → i < length xs
-    → kept_by flags (take (suc i) xs) ≡ kept_by flags (take i xs) ++ pick (eqb (get_or flags i 0) 0) (get_or xs i 0 ∷ []) []
-kept_more [] xs i h g = absurd (omega arith)
-kept_more (f ∷ fs) [] i h g = absurd (omega arith)
-kept_more (f ∷ fs) (x ∷ xs) zero h g = cases (eqb f 0) (λ e. rw (e, kept_none fs)) (λ e. rw (e, kept_none fs))
-kept_more (f ∷ fs) (x ∷ xs) (suc i) h g =
+kept_more : {A : Type 0} (d : A) (flags : List ℕ) (xs : List A) (i : ℕ) → i < length flags → i < length xs
+    → kept_by flags (take (suc i) xs) ≡ kept_by flags (take i xs) ++ pick (eqb (get_or flags i 0) 0) (get_or xs i d ∷ []) []
+kept_more d [] xs i h g = absurd (omega arith)
+kept_more d (f ∷ fs) [] i h g = absurd (omega arith)
+kept_more d (f ∷ fs) (x ∷ xs) zero h g = cases (eqb f 0) (λ e. rw (e, kept_none fs)) (λ e. rw (e, kept_none fs))
+kept_more d (f ∷ fs) (x ∷ xs) (suc i) h g =
     cases (eqb f 0)
-    (λ e. rw e (ap (λ (l : List ℕ). x ∷ l) (kept_more fs xs i (omega arith) (omega arith))))
-    (λ e. rw e (kept_more fs xs i (omega arith) (omega arith)))
+    (λ e. rw e (ap (λ l. x ∷ l) (kept_more d fs xs i (omega arith) (omega arith))))
+    (λ e. rw e (kept_more d fs xs i (omega arith) (omega arith)))
 
 -- a store at a place or behind it leaves what is before
-take_set_past : (n at v : ℕ) (xs : List ℕ) → n ≤ at → take n (set xs at v) ≡ take n xs
+take_set_past : {A : Type 0} (n at : ℕ) (v : A) (xs : List A) → n ≤ at → take n (set xs at v) ≡ take n xs
 take_set_past zero at v xs h = refl
 take_set_past (suc n) at v [] h = refl
 take_set_past (suc n) zero v (x ∷ xs) h = absurd (omega arith)
-take_set_past (suc n) (suc at) v (x ∷ xs) h = ap (λ (l : List ℕ). x ∷ l) (take_set_past n at v xs (omega arith))
+take_set_past (suc n) (suc at) v (x ∷ xs) h = ap (λ l. x ∷ l) (take_set_past n at v xs (omega arith))
 
 -- Entries moved to the front: of the first `from` entries those that stay are in the first `to` places
 
-pub record Keeping (gone : List ℕ) (n : ℕ) (l₀ l : List ℕ) (to from : ℕ) : Type 0 where
+pub record Keeping {A : Type 0} (gone : List ℕ) (n : ℕ) (l₀ l : List A) (to from : ℕ) : Type 0 where
   pub within : from ≤ n
   pub low : to ≤ from
   pub long : length l ≡ length l₀
   pub front : take to l ≡ kept_by gone (take from l₀)
   pub behind : drop from l ≡ drop from l₀
 
-pub keep_start : (gone : List ℕ) (n : ℕ) (l : List ℕ) → Keeping gone n l l 0 0
+pub keep_start : {A : Type 0} (gone : List ℕ) (n : ℕ) (l : List A) → Keeping gone n l l 0 0
 keep_start gone n l = record { within = omega arith; low = omega arith; long = refl; front = sym (kept_none gone); behind = refl }
 
-module _ {gone : List ℕ} {n : ℕ} {l₀ l : List ℕ} {to from : ℕ} (flags : n ≤ length gone) (room : n ≤ length l₀) (K : Keeping gone n l₀ l to from) where
-  module _ (h : from < n) where
-    here : get_or l from 0 ≡ get_or l₀ from 0
+module _ {A : Type 0} {gone : List ℕ} {n : ℕ} {l₀ l : List A} {to from : ℕ} (flags : n ≤ length gone) (room : n ≤ length l₀) (K : Keeping gone n l₀ l to from) where
+  module _ (d : A) (h : from < n) where
+    here : get_or l from d ≡ get_or l₀ from d
     here =
         let long = K.long in
-        ap (λ (xs : List ℕ). get_or xs 0 0) (sym (drop-cons l from 0 (omega arith)) ∙ K.behind ∙ drop-cons l₀ from 0 (omega arith))
+        ap (λ xs. get_or xs 0 d) (sym (drop-cons l from d (omega arith)) ∙ K.behind ∙ drop-cons l₀ from d (omega arith))
 
-    more : kept_by gone (take (suc from) l₀) ≡ take to l ++ pick (eqb (get_or gone from 0) 0) (get_or l from 0 ∷ []) []
-    more = rw (here, K.front) (kept_more gone l₀ from (omega arith) (omega arith))
+    more : kept_by gone (take (suc from) l₀) ≡ take to l ++ pick (eqb (get_or gone from 0) 0) (get_or l from d ∷ []) []
+    more = rw (here, K.front) (kept_more d gone l₀ from (omega arith) (omega arith))
 
-    front_next : take (to + bool_byte (eqb (get_or gone from 0) 0)) (set l to (get_or l from 0)) ≡ kept_by gone (take (from + 1) l₀)
+    front_next : take (to + bool_byte (eqb (get_or gone from 0) 0)) (set l to (get_or l from d)) ≡ kept_by gone (take (from + 1) l₀)
     front_next =
         let long = K.long in
         let low = K.low in
         let none : to + 0 ≡ to = omega arith in
         rw (add-one from, more) (cases (eqb (get_or gone from 0) 0)
-        (λ e. rw (e, add-one to) (take-suc-set l to (get_or l from 0) (omega arith)))
-        (λ e. rw (e, none) (take_set_past to to (get_or l from 0) l (omega arith) ∙ sym (append-nil (take to l)))))
+        (λ e. rw (e, add-one to) (take-suc-set l to (get_or l from d) (omega arith)))
+        (λ e. rw (e, none) (take_set_past to to (get_or l from d) l (omega arith) ∙ sym (append-nil (take to l)))))
 
-    pub keep_turn : Keeping gone n l₀ (set l to (get_or l from 0)) (to + bool_byte (eqb (get_or gone from 0) 0)) (from + 1)
-    keep_turn =
+    pub keep_turn : (x : A) → x ≡ get_or l from d → Keeping gone n l₀ (set l to x) (to + bool_byte (eqb (get_or gone from 0) 0)) (from + 1)
+    keep_turn x is =
         let low = K.low in
         let one = byte_one (eqb (get_or gone from 0) 0) in
-        record {
+        rw is record {
           within = omega arith;
           low = omega arith;
-          long = length-set l to (get_or l from 0) ∙ K.long;
+          long = length-set l to (get_or l from d) ∙ K.long;
           front = front_next;
-          behind = rw (add-one from) (drop-set-lt (suc from) l to (get_or l from 0) (omega arith) ∙ behind_on from (suc from) l l₀ (omega arith) K.behind);
+          behind = rw (add-one from) (drop-set-lt (suc from) l to (get_or l from d) (omega arith) ∙ behind_on from (suc from) l l₀ (omega arith) K.behind);
         }
 
   pub keep_end : n ≤ from → Fronted n (kept_by gone (take n l₀)) l₀ l

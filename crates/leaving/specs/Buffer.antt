@@ -16,7 +16,7 @@ pub record Roomy (n : ℕ) (cache marks priorities : List ℕ) : Type 0 where
   pub priorities_room : n ≤ length priorities
 
 -- `held` stands in front of the list now, and the places from k on are as they were
-pub record Fronted (k : ℕ) (held list list' : List ℕ) : Type 0 where
+pub record Fronted {A : Type 0} (k : ℕ) (held list list' : List A) : Type 0 where
   pub front : take (length held) list' ≡ held
   pub behind : drop k list' ≡ drop k list
 
