@@ -15,7 +15,10 @@ use Rattle.lists.specs.Sorting.{insert_by}
 use Rattle.lists.proofs.Choice.{cases, and_l, and_r, or_none_l, or_none_r, eqb_sym}
 use Rattle.lists.proofs.Leaves.{mem_place}
 use Rattle.lists.proofs.Sorting.{length_insert}
-use Rattle.paging.specs.Policy.{Kind, hit, load, bundled, kind_number, is_bundled}
+use Rattle.paging.specs.Numbers.{kind_of_outcome}
+use Rattle.paging.specs.Policy.{hit, load, bundled, is_bundled}
+use Rattle.paging.specs.declared.outcomes.Outcome.{Outcome}
+use Rattle.paging.specs.declared.outcomes.Outcome.TheVariants.{Hit, Load, LoadAfterBundle}
 use Rattle.marking.specs.Marking.{Cached, cached_at, pages_in, marks_in, priorities_in, by_page, cleared, mark_bundle, spared, marked_by, mark_kind, mark_served}
 use Rattle.marking.specs.Lists.{cached_in, rising}
 use Rattle.marked.specs.Buffer.{BufferReady, ServedTo}
@@ -64,14 +67,14 @@ module _ {k a n : ℕ} {cache marks priorities evicted : List ℕ} (A : BufferRe
   roomy = ready_roomy k a n cache marks priorities evicted A
 
   -- what is told, for a request of a kind that leaves these cached pages
-  told_as : {clear : Bool} {p pr : ℕ} (kind : Kind) (after : List Cached) (c m q e : List ℕ) (l : ℕ) → mark_kind k p (cached_in n cache marks priorities) ≡ kind
-      → marked_by kind a p pr (cleared clear (cached_in n cache marks priorities)) ≡ after → LeftWith k after cache marks priorities c m q → length after ≡ l
-      → e ≡ pick (is_bundled kind) (pages_in (mark_bundle a (cleared clear (cached_in n cache marks priorities))) ++ drop a evicted) evicted
-      → ServedTo k a n p pr clear cache marks priorities evicted (wiped l k c) (wiped l k m) (wiped l k q) e (record { answer = kind_number kind; count = l })
-  told_as {clear = clear} {p = p} {pr = pr} kind after c m q e l is made L long out =
+  told_as : {clear : Bool} {p pr : ℕ} (outcome : Outcome) (after : List Cached) (c m q e : List ℕ) (l : ℕ)
+      → mark_kind k p (cached_in n cache marks priorities) ≡ kind_of_outcome outcome → marked_by (kind_of_outcome outcome) a p pr (cleared clear (cached_in n cache marks priorities)) ≡ after → LeftWith k after cache marks priorities c m q → length after ≡ l
+      → e ≡ pick (is_bundled (kind_of_outcome outcome)) (pages_in (mark_bundle a (cleared clear (cached_in n cache marks priorities))) ++ drop a evicted) evicted
+      → ServedTo k a n p pr clear cache marks priorities evicted (wiped l k c) (wiped l k m) (wiped l k q) e (record { outcome = outcome; count = l })
+  told_as {clear = clear} {p = p} {pr = pr} outcome after c m q e l is made L long out =
       let all : mark_served k a clear p pr (cached_in n cache marks priorities) ≡ after = rw is made in
       record {
-        answer_told = rw is;
+        outcome_told = sym is;
         count_told = rw all (sym long);
         cache_told = rw all (wiped_laid l k (pages_in after) cache c L.pages_left (length-map after (λ (x : Cached). x.page) ∙ long));
         marks_told = rw all (wiped_laid l k (marks_in after) marks m L.marks_left (length-map after (λ (x : Cached). x.mark) ∙ long));
@@ -173,7 +176,7 @@ module _ {k a n : ℕ} {cache marks priorities evicted : List ℕ} (A : BufferRe
       now_cached = rw (take_at y (drop n marks) n y_long, wiping) (cached_cleared clear (take n cache) (take n marks) (take n priorities))
 
       pub hit_told : {p pr at : ℕ} → at ≡ place p (take n cache) → at < n → ServedTo k a n p pr clear cache marks priorities evicted
-          (wiped n k cache) (wiped n k (set (y ++ drop n marks) at 1)) (wiped n k (set priorities at pr)) evicted (record { answer = 0; count = n })
+          (wiped n k cache) (wiped n k (set (y ++ drop n marks) at 1)) (wiped n k (set priorities at pr)) evicted (record { outcome = Hit; count = n })
       hit_told {p = p} {pr = pr} {at = at} found h =
           let zs = cached_in n cache (y ++ drop n marks) priorities in
           let most = A.count_most in
@@ -186,7 +189,7 @@ module _ {k a n : ℕ} {cache marks priorities evicted : List ℕ} (A : BufferRe
           hit_set (λ x. x.mark) p pr zs once ∙ rw (seat, marks_in_lem n cache (y ++ drop n marks) priorities now_roomy) in
           let en : priorities_in after ≡ set (take n priorities) at pr =
           hit_set (λ x. x.priority) p pr zs once ∙ rw (seat, priorities_in_lem n cache (y ++ drop n marks) priorities now_roomy) in
-          told_as hit after cache (set (y ++ drop n marks) at 1) (set priorities at pr) evicted n (kind_hit p at found h) (rw now_cached)
+          told_as Hit after cache (set (y ++ drop n marks) at 1) (set priorities at pr) evicted n (kind_hit p at found h) (rw now_cached)
           (record {
             pages_left = rw ep (kept_fronted n k cache roomy.cache_room);
             marks_left = rw em (fronted_on k k (set (take n (y ++ drop n marks)) at 1) marks (y ++ drop n marks) (set (y ++ drop n marks) at 1) (omega arith) marks_behind
@@ -199,12 +202,12 @@ module _ {k a n : ℕ} {cache marks priorities evicted : List ℕ} (A : BufferRe
       pub load_told : {p pr at : ℕ} {c m q : List ℕ} → at ≡ place p (take n cache) → n ≤ at → n < k
           → LeftWith (n + 1) (insert_by by_page (cached_at p 1 pr) (cached_in n cache (y ++ drop n marks) priorities)) cache (y ++ drop n marks) priorities c m q
           → ServedTo k a n p pr clear cache marks priorities evicted
-          (wiped (n + 1) k c) (wiped (n + 1) k m) (wiped (n + 1) k q) evicted (record { answer = 1; count = n + 1 })
+          (wiped (n + 1) k c) (wiped (n + 1) k m) (wiped (n + 1) k q) evicted (record { outcome = Load; count = n + 1 })
       load_told {p = p} {pr = pr} {at = at} {c = c} {m = m} {q = q} found h g L =
           let zs = cached_in n cache (y ++ drop n marks) priorities in
           let after = insert_by by_page (cached_at p 1 pr) zs in
           let l = length_cached n cache (y ++ drop n marks) priorities now_roomy in
-          told_as load after c m q evicted (n + 1) (kind_load p at found h g) (rw now_cached)
+          told_as Load after c m q evicted (n + 1) (kind_load p at found h g) (rw now_cached)
           (left_on (n + 1) k after cache marks priorities cache (y ++ drop n marks) priorities c m q (omega arith) refl marks_behind refl L)
           (length_insert by_page (cached_at p 1 pr) zs ∙ omega arith)
           refl
@@ -213,7 +216,7 @@ module _ {k a n : ℕ} {cache marks priorities evicted : List ℕ} (A : BufferRe
           → at ≡ place p (take n cache) → n ≤ at
           → LeftWith (n - a + 1) (insert_by by_page (cached_at p 1 pr) (cached_in (n - a) c₁ m₁ q₁)) c₁ m₁ q₁ c m q
           → ServedTo k a n p pr clear cache marks priorities evicted
-          (wiped (n - a + 1) k c) (wiped (n - a + 1) k m) (wiped (n - a + 1) k q) e₁ (record { answer = 2; count = n - a + 1 })
+          (wiped (n - a + 1) k c) (wiped (n - a + 1) k m) (wiped (n - a + 1) k q) e₁ (record { outcome = LoadAfterBundle; count = n - a + 1 })
       bundle_told {p = p} {pr = pr} {at = at} {c₁ = c₁} {m₁ = m₁} {q₁ = q₁} {e₁ = e₁} {c = c} {m = m} {q = q} g B found h L =
           let low = A.a_low in
           let high = A.a_high in
@@ -225,7 +228,7 @@ module _ {k a n : ℕ} {cache marks priorities evicted : List ℕ} (A : BufferRe
           let after = insert_by by_page (cached_at p 1 pr) ys in
           let L' : LeftWith (n - a + 1) after c₁ m₁ q₁ c m q = rw rest at L in
           let count = B.spared_count in
-          told_as bundled after c m q e₁ (n - a + 1) (kind_bundled p at found h g) (rw now_cached)
+          told_as LoadAfterBundle after c m q e₁ (n - a + 1) (kind_bundled p at found h g) (rw now_cached)
           (left_on (n - a + 1) k after cache marks priorities c₁ m₁ q₁ c m q (omega arith)
           (behind_on n k c₁ cache most S.pages_left.behind)
           (behind_on n k m₁ (y ++ drop n marks) most S.marks_left.behind ∙ marks_behind)

@@ -3,7 +3,8 @@
 use Rattle.std.specs.Prelude.{ℕ, ◌≤◌, Bool, true, List, ◌++◌, ◌≡◌, length, take, drop}
 use Rattle.lists.specs.Choice.{pick}
 use Rattle.lists.specs.Places.{laid}
-use Rattle.paging.specs.Policy.{kind_number, is_bundled}
+use Rattle.paging.specs.Numbers.{kind_of_outcome}
+use Rattle.paging.specs.Policy.{is_bundled}
 use Rattle.marking.specs.Lists.{cached_in, rising}
 use Rattle.marking.specs.Marking.{pages_in, marks_in, priorities_in, cleared, mark_bundle, mark_kind, mark_served}
 use Rattle.marked.specs.declared.Served.{Served}
@@ -22,7 +23,7 @@ pub record BufferReady (k a n : ℕ) (cache marks priorities evicted : List ℕ)
 
 -- what a request for p answers, which gets the priority, and the four lists after it; with `clear` all marks are cleared first
 pub record ServedTo (k a n p priority : ℕ) (clear : Bool) (cache marks priorities evicted cache' marks' priorities' evicted' : List ℕ) (r : Served) : Type 0 where
-  pub answer_told : r.answer ≡ kind_number (mark_kind k p (cached_in n cache marks priorities))
+  pub outcome_told : kind_of_outcome r.outcome ≡ mark_kind k p (cached_in n cache marks priorities)
   pub count_told : r.count ≡ length (mark_served k a clear p priority (cached_in n cache marks priorities))
   pub cache_told : cache' ≡ laid k (pages_in (mark_served k a clear p priority (cached_in n cache marks priorities))) cache
   pub marks_told : marks' ≡ laid k (marks_in (mark_served k a clear p priority (cached_in n cache marks priorities))) marks

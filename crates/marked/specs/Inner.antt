@@ -3,7 +3,7 @@ use Rattle.std.specs.Prelude.{ℕ, ◌-◌, ◌<◌, true, List, ◌∷◌, ◌+
 use Rattle.marking.specs.Lists.{rising}
 
 -- a list with a value put in at a place: the later entries move up a place, and the last has none
-abbrev pub inserted : (at value : ℕ) → List ℕ → List ℕ
+abbrev pub inserted : {A : Type 0} → (at : ℕ) → (value : A) → List A → List A
 inserted at value list = take (length list) (take at list ++ (value ∷ drop at list))
 
 -- zeros in the places from n up to k

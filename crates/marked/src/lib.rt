@@ -9,13 +9,14 @@ ghost use Rattle.marked.specs.Buffer.{BufferReady, ServedTo};
 ghost use Rattle.leaving.specs.Buffer.{Roomy};
 ghost use Rattle.marked.specs.Inner.{wiped};
 
-mod loading;
-mod places;
+use paging::Outcome;
 
-// What a request did: 0 for a hit, 1 for a load, 2 for a load after a bundle; and how many pages are cached now.
+mod loading;
+
+// What a request did, and how many pages are cached now.
 #[derive(Clone, Copy)]
 pub struct Served {
-    pub answer: u32,
+    pub outcome: Outcome,
     pub count: usize,
 }
 
@@ -44,7 +45,7 @@ pub fn serve(
         priorities[at] = priority;
         wipe(n, k, cache, marks, priorities);
         return Served {
-            answer: 0,
+            outcome: Outcome::Hit,
             count: n,
         };
     }
@@ -52,14 +53,20 @@ pub fn serve(
         let count = n + 1;
         loading::load(n, page, priority, cache, marks, priorities);
         wipe(count, k, cache, marks, priorities);
-        return Served { answer: 1, count };
+        return Served {
+            outcome: Outcome::Load,
+            count,
+        };
     }
     let left = n - a;
     let count = left + 1;
     leaving::bundle(a, n, cache, marks, priorities, evicted);
     loading::load(left, page, priority, cache, marks, priorities);
     wipe(count, k, cache, marks, priorities);
-    Served { answer: 2, count }
+    Served {
+        outcome: Outcome::LoadAfterBundle,
+        count,
+    }
 }
 
 // Clears the marks, or leaves them.
@@ -67,8 +74,7 @@ fn clear_marks(clear: bool, marks: &mut [u32])
     ensures { marks.new ≡ pick clear (replicate (length marks.old) 0) marks.old }
 {
     if clear {
-        lists::moves::fill_zero(marks);
-        return;
+        marks.fill(0);
     }
 }
 
@@ -79,33 +85,30 @@ fn wipe(n: usize, k: usize, cache: &mut [u32], marks: &mut [u32], priorities: &m
         × ((marks.new ≡ wiped n k marks.old)
         × (priorities.new ≡ wiped n k priorities.old)) }
 {
-    lists::moves::fill_zero(&mut cache[n..k]);
-    lists::moves::fill_zero(&mut marks[n..k]);
-    places::fill_zero_wide(&mut priorities[n..k]);
+    cache[n..k].fill(0);
+    marks[n..k].fill(0);
+    priorities[n..k].fill(0);
 }
 
-// Whether each page is below the next. The whole list is looked at, several places at once.
+// Whether each page is below the next. The whole list is looked at, several places at once, which is quicker than to stop early.
 pub fn rises(pages: &[u32]) -> bool
     ensures { result ≡ rising pages.now }
 {
     let mut fine = true;
-    let mut i = 1;
-    while i < pages.len() {
-        fine = fine & (pages[i - 1] < pages[i]);
-        i += 1;
+    for i in 1..pages.len() {
+        fine &= pages[i - 1] < pages[i];
     }
     fine
 }
 
-// Whether every mark is 0 or 1.
+// Whether every mark is 0 or 1. The whole list is looked at, several places at once, which is quicker than to stop early.
+#[tactic(auto, using(crate::proofs::Forms::marks_turn))]
 pub fn marks_formed(marks: &[u32]) -> bool
     ensures { result ≡ all_marks marks.now }
 {
     let mut fine = true;
-    let mut i = 0;
-    while i < marks.len() {
-        fine = fine & (marks[i] <= 1);
-        i += 1;
+    for mark in marks {
+        fine &= *mark <= 1;
     }
     fine
 }

@@ -47,5 +47,10 @@ unfolding sooner
 fields_in_order x y =
     let later = nat_cmp x.priority y.priority in
     let last = nat_cmp x.page y.page in
-    rw (then_some later last, then_some (nat_cmp x.mark y.mark) (ordering_then later last), then_less x.mark y.mark (ordering_then later last),
-    then_less x.priority y.priority last, less x.page y.page) refl
+    rw (
+      then_some later last,
+      then_some (nat_cmp x.mark y.mark) (ordering_then later last),
+      then_less x.mark y.mark (ordering_then later last),
+      then_less x.priority y.priority last,
+      less x.page y.page,
+    ) refl

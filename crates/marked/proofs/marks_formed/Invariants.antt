@@ -1,12 +1,8 @@
--- `marked::marks_formed` meets its contract: fine says whether the first i marks are 0 or 1.
-use Prim.Native.Nat.{◌≤◌, ◌-◌}
+-- `marked::marks_formed` meets its contract: fine says whether the marks looked at are 0 or 1.
 use mathlib.Core.Path.{◌≡◌}
-use lib.ListN.{length, take}
+use lib.ListN.{take}
 use Rattle.marking.specs.Lists.{all_marks}
 use Rattle.marked.proofs.marks_formed.Given as goal
 
-abbrev pub invariant-loop-i : goal.invariant-loop-i
-invariant-loop-i l = (l.i ≤ length l.marks) × (l.fine ≡ all_marks (take l.i l.marks))
-
-abbrev pub decreases-loop-i : goal.decreases-loop-i
-decreases-loop-i l = length l.marks - l.i
+abbrev pub invariant-loop-mark : goal.invariant-loop-mark
+invariant-loop-mark l = l.fine ≡ all_marks (take l.mark-index l.marks)
