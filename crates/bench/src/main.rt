@@ -47,11 +47,9 @@ fn figures(out: Output<Stdout, HostRuntime>, r: Report) {
 // Where the input cannot be read, nothing is printed: figures of a part would be wrong.
 fn main(rt: HostRuntime) {
     let mut input = [0u8; Report::INPUT];
-    let read = streams::read(&mut rt.stdin(), &rt, &mut input);
-    if read.failed {
+    let Ok(n) = streams::read(&mut rt.stdin(), &rt, &mut input) else {
         return;
-    }
-    let n = read.bytes;
+    };
     let r = report::of_input(&input[..n]);
     let out = Output::new(rt.stdout(), rt);
     if r.refusal != 0 {

@@ -2,17 +2,15 @@
 // tells how rows are written. Their answers, in the file `stdout`, were worked out by hand.
 #![tactic(auto)]
 
-use cases_rows::row::{Numbers, Row};
+use cases_rows::row::{Call, Row};
 use cases_rows::{row, show, text};
 
 // The longest list is a trace with one request too many. Where the input cannot be read, nothing is printed.
 fn main(rt: HostRuntime) {
     let mut input = [0u8; 65536];
-    let read = streams::read(&mut rt.stdin(), &rt, &mut input);
-    if read.failed {
+    let Ok(n) = streams::read(&mut rt.stdin(), &rt, &mut input) else {
         return;
-    }
-    let n = read.bytes;
+    };
     let mut first = [0u32; 65537];
     let mut second = [0u32; 65537];
     let mut third = [0u32; 65537];
@@ -22,28 +20,23 @@ fn main(rt: HostRuntime) {
 // Each line in turn. The lists stay from row to row.
 fn run(rt: &impl Print, input: &[u8], first: &mut [u32], second: &mut [u32], third: &mut [u32]) {
     let mut row = Row::empty();
-    let mut at = 0;
-    while at < input.len() {
-        let start = at;
-        let end = text::find(input, start, b'\n');
-        at = end + 1;
-        row = row::read(rt, &input[start..end], row, first, second, third);
+    for line in input.split(|b| *b == b'\n') {
+        row = row::read(rt, line, row, first, second, third);
         lend(rt, row, first, second, third);
     }
 }
 
 // Answers a row, with the places of each list that it has.
 fn lend(rt: &impl Print, row: Row, first: &mut [u32], second: &mut [u32], third: &mut [u32]) {
-    if row.call == 0 {
+    let Some(call) = row.call else {
         return;
-    }
+    };
     let one = text::within(row.first, first);
     let two = text::within(row.second, second);
     let three = text::within(row.third, third);
     answer(
         rt,
-        row.call,
-        row.numbers,
+        call,
         &mut first[..one],
         &mut second[..two],
         &mut third[..three],
@@ -51,16 +44,9 @@ fn lend(rt: &impl Print, row: Row, first: &mut [u32], second: &mut [u32], third:
     show::end(rt);
 }
 
-fn answer(
-    rt: &impl Print,
-    call: u16,
-    n: Numbers,
-    first: &mut [u32],
-    second: &mut [u32],
-    third: &mut [u32],
-) {
-    if cases_calls::answer(rt, call, n, first, second, third) {
+fn answer(rt: &impl Print, call: Call, first: &mut [u32], second: &mut [u32], third: &mut [u32]) {
+    if cases_calls::answer(rt, call.name, call.numbers, first, second, third) {
         return;
     }
-    cases_files::answer(rt, call, n, first, second);
+    cases_files::answer(rt, call.name, call.numbers, first, second);
 }

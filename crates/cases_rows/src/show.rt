@@ -1,16 +1,18 @@
+use std::fmt::Display;
+
 // The answer behind a label: figures, or `refused` and the refusal's number. Where a write fails, the rest is tried all the same.
 pub fn text(rt: &impl Print, words: &[u8]) {
     let _ = rt.write_all(words);
 }
 
 // A space and a number.
-pub fn figure(rt: &impl Print, n: u32) {
+pub fn figure<T: Display + Drop>(rt: &impl Print, n: T) {
     let _ = print!(rt; " {n}");
 }
 
 // A space and a length or an offset.
 pub fn length(rt: &impl Print, n: usize) {
-    let _ = print!(rt; " {n}");
+    figure(rt, n);
 }
 
 pub fn end(rt: &impl Print) {
@@ -24,10 +26,8 @@ pub fn refused(rt: &impl Print, number: u32) {
 
 // A list of numbers.
 pub fn list(rt: &impl Print, numbers: &[u32]) {
-    let mut i = 0;
-    while i < numbers.len() {
-        figure(rt, numbers[i]);
-        i += 1;
+    for n in numbers {
+        figure(rt, *n);
     }
 }
 

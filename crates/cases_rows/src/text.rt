@@ -7,184 +7,142 @@ pub fn find(text: &[u8], from: usize, byte: u8) -> usize
     requires { from ≤ length text.now }
     ensures { (from ≤ result) × IsPrefixLen result text.now }
 {
-    let mut i = from;
-    while i < text.len() {
-        if text[i] == byte {
-            return i;
-        }
-        i += 1;
+    let behind = &text[from..];
+    match behind.iter().position(|b| *b == byte) {
+        Some(i) => from + i,
+        None => text.len(),
     }
-    i
 }
 
-// What a digit stands for, and 10 for any other byte.
-fn digit(b: u8) -> u64
-    ensures { result ≤ 10 }
-{
-    if b < b'0' {
-        return 10;
-    }
-    if b > b'9' {
-        return 10;
-    }
-    (b - b'0') as u64
+// What a digit stands for.
+fn digit(b: u8) -> Option<u32> {
+    char::from(b).to_digit(10)
 }
 
+// A number, and the text behind it.
 #[derive(Clone, Copy)]
-struct Value {
-    value: u64,
-    next: usize,
+struct Number<'a> {
+    value: u32,
+    behind: &'a [u8],
 }
 
-// The number whose digits go on at an offset, those before it being read; of more than 32 bits the lower 32.
-fn number(line: &[u8], from: usize, before: u64) -> Value
-    requires { (from ≤ length line.now) × (before < 4294967296) }
-    ensures { (from ≤ result.next) × (result.next ≤ length line.now) × (result.value < 4294967296) }
+// The number whose first digits were read and go on at a text's start; of more than 32 bits the lower 32.
+fn read_number(text: &[u8], before: u32) -> Number<'_>
+    ensures { length result.behind.now ≤ length text.now }
 {
     let mut value = before;
-    let mut i = from;
-    while i < line.len() {
-        let d = digit(line[i]);
-        if d == 10 {
-            return Value { value, next: i };
-        }
-        value = (value * 10 + d) % 4294967296;
-        i += 1;
-    }
-    Value { value, next: i }
-}
-
-// A number that comes some times, never for a byte that says nothing; or the end of a list.
-#[derive(Clone, Copy)]
-struct Token {
-    last: bool,
-    times: u64,
-    value: u32,
-    next: usize,
-}
-
-// `7` is a number, `3*7` is that number three times, a capital letter is its byte's number, and `;` ends a list; other bytes say nothing.
-fn token_at(line: &[u8], from: usize) -> Token
-    requires { from < length line.now }
-    ensures { (from < result.next) × (result.next ≤ length line.now) }
-{
-    let b = line[from];
-    let next = from + 1;
-    let d = digit(b);
-    if d < 10 {
-        return numbers(line, number(line, next, d));
-    }
-    if b == b';' {
-        return Token {
-            last: true,
-            times: 0,
-            value: 0,
-            next,
+    for (i, b) in text.iter().enumerate() {
+        let Some(d) = digit(*b) else {
+            return Number {
+                value,
+                behind: &text[i..],
+            };
         };
+        value = value.wrapping_mul(10).wrapping_add(d);
     }
-    Token {
-        last: false,
-        times: capital(b),
-        value: wide(b),
-        next,
+    Number {
+        value,
+        behind: &text[text.len()..],
     }
 }
 
-fn wide(b: u8) -> u32 {
-    b as u32
+// A number that comes some times, or the end of a list.
+#[derive(Clone, Copy)]
+enum Word {
+    Times { times: u32, value: u32 },
+    End,
 }
 
-// 1 for a capital letter, 0 for any other byte.
-fn capital(b: u8) -> u64 {
-    if b < b'A' {
-        return 0;
+// `7` is a number, `3*7` is that number three times, a capital letter is its byte's number, and `;` ends a list; another byte says nothing, so it
+// comes no times.
+#[derive(Clone, Copy)]
+struct Token<'a> {
+    word: Word,
+    behind: &'a [u8],
+}
+
+fn read_token(first: u8, behind: &[u8]) -> Token<'_>
+    ensures { length result.behind.now ≤ length behind.now }
+{
+    if let Some(d) = digit(first) {
+        let first = read_number(behind, d);
+        return repeated(first.value, first.behind);
     }
-    if b > b'Z' {
-        return 0;
-    }
-    1
+    let value = u32::from(first);
+    let word = match first {
+        b';' => Word::End,
+        b'A'..=b'Z' => Word::Times { times: 1, value },
+        _ => Word::Times { times: 0, value },
+    };
+    Token { word, behind }
 }
 
 // A number that was read is one, or says how often the number behind its `*` comes.
-fn numbers(line: &[u8], first: Value) -> Token
-    requires { (first.next ≤ length line.now) × (first.value < 4294967296) }
-    ensures { (first.next ≤ result.next) × (result.next ≤ length line.now) }
+fn repeated(first: u32, behind: &[u8]) -> Token<'_>
+    ensures { length result.behind.now ≤ length behind.now }
 {
-    let at = first.next;
-    if at < line.len() {
-        if line[at] == b'*' {
-            let second = number(line, at + 1, 0);
-            return Token {
-                last: false,
-                times: first.value,
-                value: second.value as u32,
-                next: second.next,
-            };
-        }
+    if let Some((b'*', rest)) = behind.split_first() {
+        let second = read_number(rest, 0);
+        let word = Word::Times {
+            times: first,
+            value: second.value,
+        };
+        return Token {
+            word,
+            behind: second.behind,
+        };
     }
-    Token {
-        last: false,
+    let word = Word::Times {
         times: 1,
-        value: first.value as u32,
-        next: at,
-    }
+        value: first,
+    };
+    Token { word, behind }
 }
 
 // Puts a number into a list some times, as often as there is room; the place behind them.
-fn fill(to: &mut [u32], from: usize, times: u64, value: u32) -> usize
+fn fill(to: &mut [u32], from: usize, times: u32, value: u32) -> usize
     requires { from ≤ length to.old }
     ensures { result ≤ length to.new }
 {
-    let mut i = from;
-    let mut left = times;
-    while i < to.len() {
-        if left == 0 {
-            return i;
-        }
-        to[i] = value;
-        i += 1;
-        left -= 1;
-    }
-    i
+    let room = to.len() - from;
+    let end = from + room.min(times as usize);
+    to[from..end].fill(value);
+    end
 }
 
-// How many numbers a list has, and the offset behind it.
+// How many numbers a list has, and the text behind it.
 #[derive(Clone, Copy)]
-pub struct Given {
+pub struct Given<'a> {
     pub count: usize,
-    pub next: usize,
+    pub behind: &'a [u8],
 }
 
-// The list that starts at an offset, up to its `;` or the line's end; at the line's end there is none, and the kept one stays.
-pub fn list(line: &[u8], from: usize, kept: usize, to: &mut [u32]) -> Given
-    requires { from ≤ length line.now }
-    ensures { result.next ≤ length line.now }
+// The list at a text's start, up to its `;` or the text's end; where there is no text, there is no list, and the kept one stays.
+pub fn list<'a>(text: &'a [u8], kept: usize, to: &mut [u32]) -> Given<'a>
+    ensures { length result.behind.now ≤ length text.now }
 {
-    if from == line.len() {
+    if text.is_empty() {
         return Given {
             count: kept,
-            next: from,
+            behind: text,
         };
     }
-    let mut i = from;
+    let mut behind = text;
     let mut count = 0;
-    while i < line.len() {
-        let t = token_at(line, i);
-        i = t.next;
-        if t.last {
-            return Given { count, next: i };
+    while let Some((first, rest)) = behind.split_first() {
+        let token = read_token(*first, rest);
+        behind = token.behind;
+        match token.word {
+            Word::End => return Given { count, behind },
+            Word::Times { times, value } => count = fill(to, count, times, value),
         }
-        count = fill(to, count, t.times, t.value);
     }
-    Given { count, next: i }
+    Given { count, behind }
 }
 
 // A number of places, or all where there are fewer.
 pub fn within(n: usize, places: &[u32]) -> usize
     ensures { IsPrefixLen result places.now }
 {
-    if n < places.len() {
-        return n;
-    }
-    places.len()
+    n.min(places.len())
 }

@@ -3,73 +3,68 @@
 // streams give or take: what a program prints is tested.
 #![tactic(auto)]
 
-ghost use Rattle.std.specs.Prelude.{true, false, ◌≡◌, ◌<◌, length, take, IsNone, ℕ, ◌∷◌, []};
+ghost use Rattle.std.specs.Prelude.{true, false, ◌≡◌, ◌<◌, length, take, IfOk, ℕ, ◌∷◌, []};
 ghost use Rattle.std.specs.Io.KnownBytes.{Appends, Consumes, IsAtEnd};
 ghost use Rattle.io.specs.Counts.{IsPrefixLen};
 ghost use Rattle.io.specs.Digits.{IsDigitCount, last_digits};
+ghost use Rattle.streams.specs.Reads.{bytes_filled, bytes_read};
 
 use std::io::{Error, Read, Write};
 
-// How many bytes were read, and whether a read failed.
-#[derive(Clone, Copy)]
-pub struct Input {
+// The input could not be read on behind its first bytes: so many were read.
+#[derive(Clone, Copy, Debug, PartialEq, Eq)]
+pub struct Unreadable {
     pub bytes: usize,
-    pub failed: bool,
 }
 
-// How many bytes a reader put at the start of lent ones, and the error of the read that stopped it, if one did.
+// The same, with the error of the read that stopped it.
 #[derive(Drop)]
-struct Filled {
+struct Stopped {
     bytes: usize,
-    error: Option<Error>,
+    error: Error,
 }
 
-// Reads into the lent bytes, until they are full or the input ends or cannot be read.
-fn fill<R: Read>(from: &mut R, into: &mut [u8]) -> Filled
-    ensures count { IsPrefixLen result.bytes into.new }
-    ensures given { Consumes (R.remaining from.old) (R.remaining from.new) (take result.bytes into.new) }
-    ensures end { IsNone result.error → result.bytes < length into.new → IsAtEnd (R.remaining from.new) }
+// Reads into the lent bytes, until they are full or the input ends or cannot be read: how many bytes a reader put at their start. The loop moves on
+// by what each read gives, so it is a `while`.
+fn fill<R: Read>(from: &mut R, into: &mut [u8]) -> Result<usize, Stopped>
+    ensures count { IsPrefixLen (bytes_filled result) into.new }
+    ensures given { Consumes (R.remaining from.old) (R.remaining from.new) (take (bytes_filled result) into.new) }
+    ensures end { IfOk result (λ bytes. bytes < length into.new → IsAtEnd (R.remaining from.new)) }
 {
     let mut bytes = 0;
     while bytes < into.len() {
         match from.read(&mut into[bytes..]) {
-            Ok(0) => return Filled { bytes, error: None },
+            Ok(0) => return Ok(bytes),
             Ok(n) => bytes += n,
-            Err(e) => {
-                return Filled {
-                    bytes,
-                    error: Some(e),
-                };
-            }
+            Err(error) => return Err(Stopped { bytes, error }),
         }
     }
-    Filled { bytes, error: None }
+    Ok(bytes)
 }
 
-// Reads the input into the lent bytes, until they are full or it ends.
-pub fn read<R: Read>(from: &mut R, errors: &impl Eprint, into: &mut [u8]) -> Input
-    ensures count { IsPrefixLen result.bytes into.new }
-    ensures given { Consumes (R.remaining from.old) (R.remaining from.new) (take result.bytes into.new) }
-    ensures end { result.failed ≡ false → result.bytes < length into.new → IsAtEnd (R.remaining from.new) }
+// Reads the input into the lent bytes, until they are full or it ends: how many bytes were read.
+pub fn read<R: Read>(
+    from: &mut R,
+    errors: &impl Eprint,
+    into: &mut [u8],
+) -> Result<usize, Unreadable>
+    ensures count { IsPrefixLen (bytes_read result) into.new }
+    ensures given { Consumes (R.remaining from.old) (R.remaining from.new) (take (bytes_read result) into.new) }
+    ensures end { IfOk result (λ bytes. bytes < length into.new → IsAtEnd (R.remaining from.new)) }
 {
-    let filled = fill(from, into);
-    let bytes = filled.bytes;
-    match filled.error {
-        None => Input {
-            bytes,
-            failed: false,
-        },
-        Some(e) => {
-            let _ = eprintln!(errors; "standard input: {e}");
-            Input {
-                bytes,
-                failed: true,
-            }
+    match fill(from, into) {
+        Ok(bytes) => Ok(bytes),
+        Err(stopped) => {
+            let _ = eprintln!(errors; "standard input: {}", stopped.error);
+            Err(Unreadable {
+                bytes: stopped.bytes,
+            })
         }
     }
 }
 
-// An output with who hears of its errors, and whether a write to it has failed.
+// An output with who hears of its errors, and whether a write to it has failed. The flag stands beside the output, which is lent on after a failure
+// too: so a program writes one thing after the other with no `?`, and its status stays as it is.
 #[derive(Clone, Copy, Drop)]
 pub struct Output<W, E> {
     to: W,
@@ -112,7 +107,7 @@ impl<W: Write, E: Eprint> Output<W, E> {
             × Appends (W.contents self.to) (W.contents result.to) (32 ∷ last_digits 10 k n) }
     {
         let mut digits = [0u8; 20];
-        let count = io::decimal(n as u64, &mut digits);
+        let count = io::decimal(u64::from(n), &mut digits);
         self.text(b" ").text(&digits[..count])
     }
 

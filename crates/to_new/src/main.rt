@@ -9,11 +9,9 @@ use streams::Output;
 // Where the input cannot be read, nothing is printed: the edition of a part would be wrong.
 fn main(rt: HostRuntime) {
     let mut input = [0u8; Program::INPUT];
-    let read = streams::read(&mut rt.stdin(), &rt, &mut input);
-    if read.failed {
+    let Ok(n) = streams::read(&mut rt.stdin(), &rt, &mut input) else {
         return;
-    }
-    let n = read.bytes;
+    };
     let mut bytes = [0u8; Program::OUTPUT];
     let turned = program::to_new(&input[..n], &mut bytes);
     let out = Output::new(rt.stdout(), rt);

@@ -1,10 +1,8 @@
-use Prim.Native.Nat.{◌≤◌, ◌-◌}
-use mathlib.Core.Path.{◌≡◌}
-use lib.ListN.{length}
+use Rattle.std.proofs.Common.{◌≤◌, length, ◌≡◌}
 use Rattle.cases_rows.proofs.text.list.Given as goal
 
-abbrev pub invariant-loop-i : goal.invariant-loop-i
-invariant-loop-i l = (l.i ≤ length l.line) × (l.count ≤ length l.to) × (length l.to ≡ length l.initial.to)
+abbrev pub invariant-loop-first : goal.invariant-loop-first
+invariant-loop-first l = (length l.behind ≤ length l.text) × (l.count ≤ length l.to) × (length l.to ≡ length l.initial.to)
 
-abbrev pub decreases-loop-i : goal.decreases-loop-i
-decreases-loop-i l = length l.line - l.i
+abbrev pub decreases-loop-first : goal.decreases-loop-first
+decreases-loop-first l = length l.behind
