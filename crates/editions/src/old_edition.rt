@@ -26,11 +26,9 @@ fn put_same(page: u32, times: u32, out: &mut [u8], from: usize) -> usize
     ensures { (result ≡ from + 6 * times) × (out.new ≡ placed out.old from (joined rq_bytes (replicate times page))) }
 {
     let mut at = from;
-    let mut left = times;
-    while left > 0 {
+    for _ in 0..times {
         records::put::rq_at(out, at, page);
         at += length::RQ;
-        left -= 1;
     }
     at
 }
