@@ -8,34 +8,15 @@ pub(crate) const ROOM: usize = 2048;
 pub(crate) fn of_list(list: &[u32], bytes: &mut [u8]) -> usize
     ensures { IsPrefixLen result bytes.new }
 {
-    let mut i = 0;
-    while i < list.len() {
-        if i == bytes.len() {
-            return i;
-        }
-        bytes[i] = (list[i] % 256) as u8;
-        i += 1;
+    for (byte, n) in bytes.iter_mut().zip(list) {
+        *byte = (*n % 256) as u8;
     }
-    i
+    list.len().min(bytes.len())
 }
 
 // Bytes as the first numbers of a list, as many as there is room for.
-pub(crate) fn into_list(bytes: &[u8; ROOM], list: &mut [u32]) {
-    let mut i = 0;
-    while i < ROOM {
-        if i == list.len() {
-            return;
-        }
-        list[i] = wide(bytes[i]);
-        i += 1;
+pub(crate) fn into_list(bytes: &[u8], list: &mut [u32]) {
+    for (n, byte) in list.iter_mut().zip(bytes) {
+        *n = u32::from(*byte);
     }
-}
-
-fn wide(b: u8) -> u32 {
-    b as u32
-}
-
-// A number as an offset.
-pub(crate) fn offset(n: u32) -> usize {
-    n as usize
 }

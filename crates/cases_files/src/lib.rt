@@ -64,17 +64,8 @@ fn on_bytes(rt: &impl Print, call: u16, n: Numbers, file: &mut [u8], trace: &[u8
 // The judge's answer: a cost, which is small here, or a refusal's number made negative.
 fn judged(rt: &impl Print, answer: i64) {
     match answer {
-        0 => show::figure(rt, 0),
-        1 => show::figure(rt, 1),
-        2 => show::figure(rt, 2),
-        -1 => show::refused(rt, 1),
-        -2 => show::refused(rt, 2),
-        -3 => show::refused(rt, 3),
-        -4 => show::refused(rt, 4),
-        -5 => show::refused(rt, 5),
-        -6 => show::refused(rt, 6),
-        -7 => show::refused(rt, 7),
-        -13 => show::refused(rt, 13),
+        0..=2 => show::figure(rt, answer as u32),
+        -7..=-1 | -13 => show::refused(rt, -answer as u32),
         _ => show::text(rt, b" another answer"),
     }
 }

@@ -1,5 +1,4 @@
 // The readers of records.
-use crate::bytes;
 use cases_rows::show;
 use readers::schedule::schedule_at;
 use readers::trace::trace_at;
@@ -7,7 +6,7 @@ use reading::{ScheduleRecord, TraceRecord};
 
 // A record of a trace at an offset, with the offset behind it.
 pub(crate) fn trace(rt: &impl Print, file: &[u8], at: u32) {
-    let found = trace_at(file, bytes::offset(at));
+    let found = trace_at(file, at as usize);
     match found {
         TraceRecord::Sizes { k, a, next } => fields(rt, b" KA", k, a, next),
         TraceRecord::Request { page, times, next } => request(rt, page, times, next),
@@ -18,7 +17,7 @@ pub(crate) fn trace(rt: &impl Print, file: &[u8], at: u32) {
 
 // A record of a schedule at an offset, with the offset behind it; a bundle's pages start at an offset.
 pub(crate) fn schedule(rt: &impl Print, file: &[u8], at: u32) {
-    let found = schedule_at(file, bytes::offset(at));
+    let found = schedule_at(file, at as usize);
     match found {
         ScheduleRecord::Sizes { k, a, next } => fields(rt, b" KA", k, a, next),
         ScheduleRecord::Bundle { t, n, from, next } => bundle(rt, t, n, from, next),
@@ -33,13 +32,13 @@ fn request(rt: &impl Print, page: u32, times: u16, next: usize) {
     show::text(rt, b" request");
     show::figure(rt, page);
     show::text(rt, b", times");
-    show::figure(rt, times as u32);
+    show::figure(rt, u32::from(times));
     behind(rt, next);
 }
 
 // A trace file read whole with a limit: k, a and the number of requests.
 pub(crate) fn count(rt: &impl Print, file: &[u8], most: u32) {
-    let told = traces::count(file, bytes::offset(most));
+    let told = traces::count(file, most as usize);
     if told.refusal != 0 {
         show::refused(rt, told.refusal);
     } else {

@@ -1,5 +1,4 @@
 // The writers of records.
-use crate::bytes;
 use cases_rows::row::Numbers;
 use cases_rows::show;
 use records::write;
@@ -7,7 +6,7 @@ use records::write::Written;
 
 // Writes a record at an offset of lent bytes. The answer is the offset behind it.
 pub(crate) fn record(rt: &impl Print, mark: u16, n: Numbers, out: &mut [u8], pages: &[u32]) {
-    let at = bytes::offset(n.0);
+    let at = n.0 as usize;
     let written = write(mark, at, n.1, n.2, out, pages);
     match written {
         Written::Next(next) => show::length(rt, next),
