@@ -7,19 +7,12 @@ use Rattle.editions.proofs.measure.measure.Goals as goal
 pub loop-page-init : goal.loop-page-init
 loop-page-init c = measuring_first _ _
 
-pub overflow_sub-most : goal.overflow_sub-most
-overflow_sub-most c = omega arith
-
 pub returns-then-more-most : goal.returns-then-more-most
 returns-then-more-most c =
     let limit = c.requires in
     let inv = c.loop-page.invariant in
     let trace = c.trace in
     c.refused.ensures ∙ measured_too_many _ _ _ _ _ inv limit trace.result trace.ensures _ _ _ c.in-Request.is c.if-more-most.true
-
-pub overflow_add-n : goal.overflow_add-n
-overflow_add-n c =
-    omega arith
 
 pub with_record-last-requires : goal.with_record-last-requires
 with_record-last-requires c =

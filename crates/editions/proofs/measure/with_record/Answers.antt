@@ -14,14 +14,6 @@ returns-then-page-last c =
     added_other c.args.last c.args.page c.args.times c.requires.2 c.requires.3 c.requires.0 c.if-page-last.true more.result
     more.ensures
 
-pub overflow_add-all : goal.overflow_add-all
-overflow_add-all c =
-    omega arith
-
-pub overflow_add-result : goal.overflow_add-result
-overflow_add-result c =
-    omega arith
-
 pub returns-then-all-gt-LONGEST : goal.returns-then-all-gt-LONGEST
 returns-then-all-gt-LONGEST c =
     let same = c.if-page-last.false in

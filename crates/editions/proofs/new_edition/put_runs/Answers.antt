@@ -22,10 +22,6 @@ overflow_add-i c =
     let few = run_few _ _ _ _ passing run.result.page run.result.times run.result.left run.ensures in
     omega arith
 
-pub loop-i-smaller : goal.loop-i-smaller
-loop-i-smaller c =
-    omega arith
-
 pub loop-i-preserved : goal.loop-i-preserved
 loop-i-preserved c =
     let put = c.put_run-at in

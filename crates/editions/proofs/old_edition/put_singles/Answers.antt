@@ -20,10 +20,6 @@ overflow_add-i c =
     let few = singles_few _ _ _ _ _ _ _ c.loop-i.invariant found.result found.ensures in
     omega arith
 
-pub loop-i-smaller : goal.loop-i-smaller
-loop-i-smaller c =
-    omega arith
-
 pub loop-i-preserved : goal.loop-i-preserved
 loop-i-preserved c =
     let put = c.put_requests-at in

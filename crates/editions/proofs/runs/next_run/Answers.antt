@@ -24,10 +24,6 @@ returns-then-more-page c =
     taken_before c.args.file.now c.args.left c.args.n c.requires.0 begun.result begun.ensures _ _ _
     (run_other _ _ _ _ _ _ inv more.result more.ensures c.if-more-page.true)
 
-pub overflow_add-all : goal.overflow_add-all
-overflow_add-all c =
-    omega arith
-
 pub returns-then-all-gt-LONGEST : goal.returns-then-all-gt-LONGEST
 returns-then-all-gt-LONGEST c =
     let begun = c.begun-first in
@@ -35,10 +31,6 @@ returns-then-all-gt-LONGEST c =
     let more = c.next_record-more in
     taken_before c.args.file.now c.args.left c.args.n c.requires.0 begun.result begun.ensures _ _ _
     (run_full _ _ _ _ _ _ inv more.result more.ensures c.if-more-page.false c.if-all-gt-LONGEST.true)
-
-pub loop-times-smaller : goal.loop-times-smaller
-loop-times-smaller c =
-    omega arith
 
 pub loop-times-preserved : goal.loop-times-preserved
 loop-times-preserved c =
