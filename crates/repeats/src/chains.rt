@@ -1,5 +1,5 @@
 // Repeats in a list, looked for in chains: the places whose pages share a slot, from the last one on.
-ghost use Rattle.std.specs.Prelude.{◌≤◌, ◌<◌, ◌≡◌, length};
+ghost use Rattle.std.specs.Prelude.{◌-◌, ◌≤◌, ◌<◌, ◌≡◌, length};
 ghost use Rattle.lists.specs.Pages.{distinct};
 ghost use Rattle.repeats.specs.Chains.{in_chain, Linked, Unlinked};
 
@@ -23,10 +23,11 @@ fn in_chain(pages: &[u32], before: &[u32], start: u32, page: u32) -> bool
 }
 
 // Whether no page stands in the list twice. `heads` has for each slot the link to its last place, `before` for each place the link to the one before it.
-fn chained_once(pages: &[u32], heads: &mut [u32], before: &mut [u32], mask: usize) -> bool
-    requires { Unlinked mask pages.now heads.old before.old }
+fn chained_once(pages: &[u32], heads: &mut [u32], before: &mut [u32]) -> bool
+    requires { Unlinked (length heads.old - 1) pages.now heads.old before.old }
     ensures { result ≡ distinct pages.now }
 {
+    let mask = heads.len() - 1;
     for (i, &page) in pages.iter().enumerate() {
         let at = slot(page, mask);
         let last = heads[at];
@@ -46,5 +47,5 @@ pub(crate) fn no_page_twice_of<const SLOTS: usize, const PLACES: usize>(pages: &
 {
     let mut heads = [0u32; SLOTS];
     let mut before = [0u32; PLACES];
-    chained_once(pages, &mut heads, &mut before, SLOTS - 1)
+    chained_once(pages, &mut heads, &mut before)
 }

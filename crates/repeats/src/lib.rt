@@ -17,8 +17,7 @@ mod slots;
 pub fn no_page_twice_in_buffer(pages: &[u32]) -> bool
     ensures { result ≡ distinct pages.now }
 {
-    let mut marks = [false; 8192];
-    marks::new_pages_only(pages, &mut marks, 8191)
+    marks::new_pages_only(pages, &mut [false; 8192])
 }
 
 // The same for a list of any size. A short one is looked through with marks, a longer one with chains, so that the time grows with the
@@ -36,6 +35,5 @@ pub fn no_page_twice(pages: &[u32]) -> bool
     if n <= 65536 {
         return chains::no_page_twice_of::<65536, 65536>(pages);
     }
-    let mut marks = [false; 65536];
-    marks::new_pages_only(pages, &mut marks, 65535)
+    marks::new_pages_only(pages, &mut [false; 65536])
 }

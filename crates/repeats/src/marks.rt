@@ -6,10 +6,11 @@ use crate::slots::slot;
 use lists::has;
 
 // Whether no page stands in the list twice: only where a page's mark is set already, an exact look at the earlier places decides.
-pub(crate) fn new_pages_only(pages: &[u32], marks: &mut [bool], mask: usize) -> bool
-    requires { mask < length marks.old }
+pub(crate) fn new_pages_only(pages: &[u32], marks: &mut [bool]) -> bool
+    requires { 0 < length marks.old }
     ensures { result ≡ distinct pages.now }
 {
+    let mask = marks.len() - 1;
     for (i, &page) in pages.iter().enumerate() {
         let at = slot(page, mask);
         let marked = marks[at];
