@@ -94,11 +94,8 @@ module _ (s : List ℕ) (at : ℕ) (z : 0 < at) (h : 0 < length (requests_from s
         → Begun (rest page 1 (at + 6)) × (requests_from s at ≡ requests_left s (rest page 1 (at + 6)))
     single_begun page ep = begun_is page 1 (at + 6) (single_here.page_is ∙ sym ep) single_here.once single_here.behind (omega arith)
 
--- the first request of the record at the offset
-module _ (s : List ℕ) (left : Rest) (none : left.times ≤ 0) where
-  pub some_there : 0 < length (requests_left s left).held → 0 < length (requests_from s left.from).held
-  some_there h = rw (at_a_record s left none) at h
+pub ruleset record_rules = (record_inside, run_inside, single_begun)
 
-  pub first_of_record : (found : Rest) → Begun found × (requests_from s left.from ≡ requests_left s found)
-      → (0 < found.from) × (requests_left s left ≡ before (found.page ∷ []) (requests_left s (rest found.page (found.times - 1) found.from)))
-  first_of_record found f = (f.0.started, at_a_record s left none ∙ f.1 ∙ in_a_run s found f.0.some)
+-- between two records the requests left are those from the record on
+pub some_there : (s : List ℕ) (left : Rest) → left.times ≤ 0 → 0 < length (requests_left s left).held → 0 < length (requests_from s left.from).held
+some_there s left none h = rw (at_a_record s left none) at h
