@@ -3,11 +3,14 @@ use Prim.Native.Nat.{ℕ, ◌+◌, ◌-◌, ◌≤◌, ◌<◌}
 use native.Mathlib.Nat.{zero-add}
 use native.Mathlib.Omega.{arith}
 use mathlib.Core.List.{List, []}
+use Rattle.std.specs.Prelude.{Result, Ok, Err}
 use mathlib.Core.Path.{◌≡◌, refl, sym, ap, ◌∙◌}
 use lib.Dec.{eqb}
 use lib.ListN.{length, replicate, length-replicate, length-append}
 use borrow.Author.Tests.{le-ltb, ne_eqb}
 use Rattle.lists.specs.Choice.{pick}
+use Rattle.paging.specs.Numbers.{number_of}
+use Rattle.paging.specs.declared.reasons.Refusal.{Refusal}
 use Rattle.reading.specs.Answers.{trace_answer}
 use Rattle.reading.specs.Files.{File, requests_from, before}
 use Rattle.reading.specs.Reading.{read_trace}
@@ -17,8 +20,7 @@ use Rattle.reading.specs.declared.TraceRecord.TheVariants as traced
 use Rattle.reading.proofs.Facts.{trace_says, RequestAt}
 use Rattle.reading.proofs.Walk.{requests_refused, requests_ended, requests_request}
 use Rattle.traces.specs.Traces.{requests_refusal}
-use Rattle.traces.specs.declared.Counted.{Counted}
-use Rattle.traces.specs.inner.Counting.{counted_in}
+use Rattle.traces.specs.inner.Counting.{CountedAnswer, counted_in}
 use Rattle.traces.proofs.Whole.{past_the_limit}
 
 pub record Counting (file : List ℕ) (most at n : ℕ) : Type 0 where
@@ -30,8 +32,8 @@ pub record Counting (file : List ℕ) (most at n : ℕ) : Type 0 where
 pub counting_first : (file : List ℕ) (most : ℕ) → Counting file most 6 0
 counting_first file most = record { started = omega arith; few = omega arith; size = sym (zero-add _); damage = refl }
 
-module _ (file : List ℕ) (most at n : ℕ) (c : Counting file most at n) (r : TraceRecord) (e : trace_answer r ≡ read_trace file at) where
-  module _ (page times next : ℕ) (q : r ≡ traced.Request page times next) where
+module _ (file : List ℕ) (most at n : ℕ) (c : Counting file most at n) (r : Result TraceRecord Refusal) (e : trace_answer r ≡ read_trace file at) where
+  module _ (page times next : ℕ) (q : r ≡ Ok (traced.Request page times next)) where
     answers : read_trace file at ≡ reading.request page times next
     answers = sym e ∙ ap trace_answer q
 
@@ -66,25 +68,32 @@ module _ (file : List ℕ) (most at n : ℕ) (c : Counting file most at n) (r : 
       let l = ap (λ (f : File ℕ). length f.held) w in
       (omega arith, c.damage ∙ ap (λ (f : File ℕ). f.damage) w)
 
-  pub counted_all : r ≡ traced.End → record { refusal = 0; requests = n } ≡ counted_in most (requests_from file 6)
+  pub counted_all : r ≡ Ok traced.End → record { refusal = 0; requests = n } ≡ counted_in most (requests_from file 6)
   counted_all q =
       let w = all_counted 0 (requests_ended file at (sym e ∙ ap trace_answer q)) in
       rw (w.0, le-ltb most n c.few, w.1)
 
-  pub counted_damage : (x : ℕ) → r ≡ traced.Refused x → record { refusal = x; requests = 0 } ≡ counted_in most (requests_from file 6)
+  pub counted_damage : (x : Refusal) → r ≡ Err x → record { refusal = number_of x; requests = 0 } ≡ counted_in most (requests_from file 6)
   counted_damage x q =
       let answer = sym e ∙ ap trace_answer q in
-      let w = all_counted x (requests_refused file at x answer) in
-      let some = trace_says file at (reading.refused x) answer in
-      rw (w.0, le-ltb most n c.few, w.1, ne_eqb x 0 some)
+      let w = all_counted (number_of x) (requests_refused file at (number_of x) answer) in
+      let some = trace_says file at (reading.refused (number_of x)) answer in
+      rw (w.0, le-ltb most n c.few, w.1, ne_eqb (number_of x) 0 some)
 
-  pub no_sizes : (k a next : ℕ) → r ≡ traced.Sizes k a next → ⊥
+  pub no_sizes : (k a next : ℕ) → r ≡ Ok (traced.Sizes k a next) → ⊥
   no_sizes k a next q =
       let b = (trace_says file at (reading.sizes k a next) (sym e ∙ ap trace_answer q)).start in
       let z = c.started in
       omega arith
 
+  -- what is no request is the end: behind the start no sizes stand
+  pub counted_else : (found : TraceRecord) → r ≡ Ok found → ((page times next : ℕ) → found ≡ traced.Request page times next → ⊥)
+      → record { refusal = 0; requests = n } ≡ counted_in most (requests_from file 6)
+  counted_else (traced.Sizes k a next) q other = absurd (no_sizes k a next q)
+  counted_else (traced.Request page times next) q other = absurd (other page times next refl)
+  counted_else traced.End q other = counted_all q
+
 -- what a count says, field by field
 pub counted_says : (most : ℕ) (file : File ℕ) (number n : ℕ) → record { refusal = number; requests = n } ≡ counted_in most file
     → (number ≡ requests_refusal most file) × (n ≡ pick (eqb (requests_refusal most file) 0) (length file.held) 0)
-counted_says most file number n c = (ap (λ (x : Counted). x.refusal) c, ap (λ (x : Counted). x.requests) c)
+counted_says most file number n c = (ap (λ (x : CountedAnswer). x.refusal) c, ap (λ (x : CountedAnswer). x.requests) c)

@@ -1,50 +1,27 @@
-use native.Mathlib.Omega.{arith}
-use Rattle.traces.proofs.CountLaws.{counting_first, request_fact, too_many, counting_next, counted_all, counted_damage, no_sizes}
+use Rattle.std.proofs.Common.{rules, arith, ◌≡◌, Ok, Err, ap, ◌∙◌}
+use Rattle.traces.proofs.CountLaws.{request_fact, too_many, counting_next, counted_damage, counted_else}
 use Rattle.traces.proofs.requests.Goals as goal
 
-pub loop-times-init : goal.loop-times-init
-loop-times-init c = counting_first _ _
-
-pub overflow_sub-most : goal.overflow_sub-most
-overflow_sub-most c = omega arith
+pub returns-in_err-times : goal.returns-in_err-times
+returns-in_err-times c =
+    let e : c.from_residual.result ≡ Err c.in_err-times.field-0.0 = search rules in
+    rw e (counted_damage _ _ _ _ c.loop-times.invariant _ c.trace.ensures _ c.in_err-times.was)
 
 pub returns-then-more-most : goal.returns-then-more-most
 returns-then-more-most c =
-    let trace = c.trace in
-    let inv = c.loop-times.invariant in
-    too_many _ _ _ _ inv trace.result trace.ensures _ _ _ c.in-Request.is c.if-more-most.true
-
-pub overflow_add-n : goal.overflow_add-n
-overflow_add-n c =
-    let trace = c.trace in
-    let inv = c.loop-times.invariant in
-    let some = (request_fact _ _ _ _ inv trace.result trace.ensures _ _ _ c.in-Request.is).some in
-    omega arith
+    let more = c.from-more.ensures in
+    too_many _ _ _ _ c.loop-times.invariant _ c.trace.ensures _ _ _ (c.in_ok-times.was ∙ ap Ok c.in-Request.is) (rw more at c.if-more-most.true)
 
 pub loop-times-smaller : goal.loop-times-smaller
 loop-times-smaller c =
-    let trace = c.trace in
-    let inv = c.loop-times.invariant in
-    let f = request_fact _ _ _ _ inv trace.result trace.ensures _ _ _ c.in-Request.is in
+    let f = request_fact _ _ _ _ c.loop-times.invariant _ c.trace.ensures _ _ _ (c.in_ok-times.was ∙ ap Ok c.in-Request.is) in
     omega arith
 
 pub loop-times-preserved : goal.loop-times-preserved
 loop-times-preserved c =
-    let trace = c.trace in
-    let inv = c.loop-times.invariant in
-    counting_next _ _ _ _ inv trace.result trace.ensures _ _ _ c.in-Request.is c.if-more-most.false
+    let more = c.from-more.ensures in
+    rw more
+    (counting_next _ _ _ _ c.loop-times.invariant _ c.trace.ensures _ _ _ (c.in_ok-times.was ∙ ap Ok c.in-Request.is) (rw more at c.if-more-most.false))
 
-pub returns-in-End : goal.returns-in-End
-returns-in-End c =
-    let trace = c.trace in
-    counted_all _ _ _ _ c.loop-times.invariant trace.result trace.ensures c.in-End.is
-
-pub returns-in-Refused : goal.returns-in-Refused
-returns-in-Refused c =
-    let trace = c.trace in
-    counted_damage _ _ _ _ c.loop-times.invariant trace.result trace.ensures _ c.in-Refused.is
-
-pub returns-in-Sizes : goal.returns-in-Sizes
-returns-in-Sizes c =
-    let trace = c.trace in
-    absurd (no_sizes _ _ _ _ c.loop-times.invariant trace.result trace.ensures _ _ _ c.in-Sizes.is)
+pub returns : goal.returns
+returns c = counted_else _ _ _ _ c.loop-times.invariant _ c.trace.ensures _ c.in_ok-times.was c.in_default.not-Request
