@@ -7,7 +7,7 @@ use mathlib.Core.Bool.{Bool, true, false}
 use mathlib.Core.List.{List, [], ◌∷◌, ◌++◌, append_assoc, append-nil}
 use mathlib.Core.Path.{◌≡◌, refl, sym, ap, ◌∙◌}
 use lib.Dec.{eqb, ltb}
-use lib.ListN.{length, drop, take, get_or, length-drop, length-take, length-append, take-append-drop, drop_of_length-le}
+use lib.ListN.{length, drop, take, get_or, length-drop, length-take, length-append, drop_of_length-le}
 use lib.Seq.{drop-drop, take_all, take-suc}
 use borrow.Author.Tests.{lt-ltb, le-ltb, eq-eqb, ne_eqb, ltb-false}
 use Rattle.lists.specs.Choice.{pick, ◌or◌}
@@ -54,12 +54,6 @@ join4 s b d e f h =
 pub stored2 : (s : List ℕ) (at : ℕ) (b d r1 r2 : List ℕ) → at + length b ≤ length s → r1 ≡ placed s at b → r2 ≡ placed r1 (at + length b) d → r2 ≡ placed s at (b ++ d)
 stored2 s at b d r1 r2 h e1 e2 = e2 ∙ ap (λ (x : List ℕ). placed x (at + length b) d) e1 ∙ placed_join s at b d h
 
-pub stored3 : (s b d e r1 r2 r3 : List ℕ) → length b + length d ≤ length s → r1 ≡ placed s 0 b → r2 ≡ placed r1 (length b) d
-    → r3 ≡ placed r2 (length b + length d) e → r3 ≡ placed s 0 (b ++ (d ++ e))
-stored3 s b d e r1 r2 r3 h e1 e2 e3 =
-    let q : r2 ≡ placed (placed s 0 b) (length b) d = e2 ∙ ap (λ (x : List ℕ). placed x (length b) d) e1 in
-    e3 ∙ ap (λ (x : List ℕ). placed x (length b + length d) e) q ∙ join3 s b d e h
-
 pub stored4 : (s b d e f r1 r2 r3 r4 : List ℕ) → length b + length d + length e ≤ length s → r1 ≡ placed s 0 b → r2 ≡ placed r1 (length b) d
     → r3 ≡ placed r2 (length b + length d) e → r4 ≡ placed r3 (length b + length d + length e) f → r4 ≡ placed s 0 (b ++ (d ++ (e ++ f)))
 stored4 s b d e f r1 r2 r3 r4 h e1 e2 e3 e4 =
@@ -73,9 +67,6 @@ stored4 s b d e f r1 r2 r3 r4 h e1 e2 e3 e4 =
 all_snoc : (xs : List ℕ) (x : ℕ) → all_bytes32 (xs ++ (x ∷ [])) ≡ all_bytes32 xs ++ bytes32 x
 all_snoc [] x = refl
 all_snoc (y ∷ xs) x = rw (all_snoc xs x)
-
-pub none_placed : (s : List ℕ) → s ≡ placed s 8 (all_bytes32 (take 0 []))
-none_placed s = sym (rw (append-nil (take 8 s)) (take-append-drop 8 s))
 
 pub page_placed : (s pages t u : List ℕ) (i : ℕ) → i < length pages → 8 + 4 * length pages ≤ length s
     → t ≡ placed s 8 (all_bytes32 (take i pages)) → u ≡ placed t (8 + 4 * i) (bytes32 (get_or pages i 0))
@@ -97,10 +88,6 @@ page_placed s pages t u i h room et eu =
     let q : length u ≡ length s
     = ap length r ∙ length_placed s 8 (all_bytes32 (take (i + 1) pages)) (omega (arith, length_all_bytes32 (take (i + 1) pages))) in
     (q, r)
-
-pub all_placed : (s pages t : List ℕ) (i : ℕ) → i ≤ length pages → length pages ≤ i
-    → t ≡ placed s 8 (all_bytes32 (take i pages)) → t ≡ placed s 8 (all_bytes32 pages)
-all_placed s pages t i h g e = e ∙ ap (λ (x : List ℕ). placed s 8 (all_bytes32 x)) (take_all i pages g)
 
 -- ---- a record at the start of the rest
 

@@ -80,7 +80,7 @@ schedule_bytes k a entries = ka_bytes k a ++ joined entry_bytes entries
 abbrev pub ev_length : ℕ → ℕ
 ev_length n = 8 + 4 * n
 
--- the length that is answered for n pages. No EV has more than 256; 0 is answered for more
+-- the length for n pages, as a number. No EV has more than 256; 0 for more, where the library answers None
 abbrev pub ev_length_answer : ℕ → ℕ
 ev_length_answer n = pick (ltb largest_k n) 0 (ev_length n)
 

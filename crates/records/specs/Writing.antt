@@ -45,7 +45,7 @@ out_after zero b out at = placed out at b
 out_after (suc n) b out at = out
 
 -- below the refusals: unless it is barred or too long, the record goes to the start of the rest of the lent bytes, and its length is
--- answered; else 0 is, and nothing changes
+-- the number; else it is 0, and nothing changes
 abbrev pub put_length : Bool → List ℕ → List ℕ → ℕ
 put_length barred b rest = pick barred 0 (pick (ltb (length rest) (length b)) 0 (length b))
 
