@@ -5,6 +5,7 @@ use native.Mathlib.Omega.{arith}
 use mathlib.Core.Bool.{Bool, true, false, not}
 use mathlib.Core.List.{List, [], ◌∷◌, map}
 use mathlib.Core.Path.{◌≡◌, refl, sym, ◌∙◌}
+use Rattle.std.specs.Prelude.{Ok}
 use lib.Dec.{eqb, leb, ltb, leb-suc-suc}
 use lib.ListN.{length, get_or, length-map}
 use borrow.Author.Tests.{eq-eqb, ne_eqb, lt-ltb, le-ltb, eqb-true}
@@ -20,10 +21,10 @@ use Rattle.paging.proofs.Possible.{holds_of, holds_not, first_is_lowest}
 use Rattle.paging.proofs.Table.{number_in_above_zero}
 use Rattle.layers.specs.Calls.{state_refusal}
 use Rattle.layers.specs.Formed.{none_above}
-use Rattle.layers.specs.Questions.{revealed_reply, RevealedTold, layers_in, refused_with, count_differs, verdict_of, possible_refusal, verdict}
+use Rattle.layers.specs.Questions.{RevealedAnswer, revealed_reply, RevealedTold, layers_in, refused_with, count_differs, verdict_of, possible_refusal, verdict}
 use Rattle.layers.specs.declared.LayersRun.{LayersRun}
 use Rattle.layers.specs.declared.PossibleAnswer.{PossibleAnswer}
-use Rattle.layers.specs.declared.PossibleAnswer.TheVariants.{Yes, CountDiffers, BrokenAt, Refused}
+use Rattle.layers.specs.declared.PossibleAnswer.TheVariants.{Yes, CountDiffers, BrokenAt}
 use Rattle.layers.specs.inner.Sizes.{Tallied, numbered, sum_below, times_in, Walked}
 use Rattle.layers.proofs.Order.{ordered_sorted, revealed_last}
 use Rattle.layers.proofs.Refusing.{StateReady, state_pass, state_fall, sound}
@@ -69,13 +70,12 @@ revealed_used ns ps s e =
 
 -- the answer
 pub revealed_refused : (run : LayersRun) (pages numbers : List ℕ) (number : ℕ) → number ≡ state_refusal run pages numbers 0 → (number ≡ 0 → ⊥)
-    → RevealedTold run pages numbers (record { refusal = number; count = 0 })
+    → ◌≡◌ {A = RevealedAnswer} (record { refusal = number; count = 0 }) (revealed_reply run pages numbers)
 unfolding revealed_reply
-revealed_refused run pages numbers number e n =
-    record { reply = rw (← e, ne_eqb number 0 n); places = λ z. absurd (n z) }
+revealed_refused run pages numbers number e n = rw (← e, ne_eqb number 0 n)
 
 pub revealed_told : (run : LayersRun) (pages numbers : List ℕ) (c : ℕ) → StateReady run pages numbers → c ≡ revealed run.s (numbered numbers)
-    → RevealedTold run pages numbers (record { refusal = 0; count = c })
+    → RevealedTold run pages numbers (Ok c)
 unfolding revealed_reply
 revealed_told run pages numbers c r told =
     let rows = rows_of numbers pages in
@@ -83,7 +83,7 @@ revealed_told run pages numbers c r told =
     let e : c ≡ revealed run.s (used_rows rows) = told ∙ revealed_used numbers pages run.s r.even in
     record {
       reply = rw (state_pass run pages numbers r 0, e);
-      places = λ z. rw e (revealed_last run.s (used_rows rows) (ordered_sorted rows f.in_order) (above_used run.s rows f.none_higher));
+      places = rw e (revealed_last run.s (used_rows rows) (ordered_sorted rows f.in_order) (above_used run.s rows f.none_higher));
     }
 
 pub s_most : (run : LayersRun) (pages numbers : List ℕ) → StateReady run pages numbers → run.s ≤ 256
@@ -180,7 +180,7 @@ module _ (run : LayersRun) (pages numbers set : List ℕ) (r : StateReady run pa
     possible_differs n = rw (taken, ne_eqb (length set) run.s n)
 
     pub possible_walked : (sizes : List ℕ) (answer : PossibleAnswer) → length set ≡ run.s → run.s ≤ 256 → Tallied (map (number_in (rows_of numbers pages)) set) sizes
-        → Walked run.s sizes answer → verdict_of answer ≡ verdict run pages numbers set
+        → Walked run.s sizes answer → verdict_of (Ok answer) ≡ verdict run pages numbers set
     unfolding verdict
     possible_walked sizes Yes l h t w =
         let L = layers_in run (rows_of numbers pages) in
@@ -196,4 +196,3 @@ module _ (run : LayersRun) (pages numbers set : List ℕ) (r : StateReady run pa
         } in
         rw (taken, eq-eqb (length set) run.s l, holds_not L set run.s i low more, first_is_lowest L set run.s i low first)
     possible_walked sizes CountDiffers l h t w = absurd w
-    possible_walked sizes (Refused number) l h t w = absurd w

@@ -5,6 +5,10 @@ use mathlib.Core.Bool.{Bool, true, false}
 use mathlib.Core.List.{List}
 use mathlib.Core.Logic.{◌↔◌}
 use mathlib.Core.Path.{◌≡◌, refl, sym, ap, ◌∙◌}
+use Rattle.std.specs.Prelude.{Result, Ok, Err}
+use Rattle.paging.specs.Numbers.{number_of}
+use Rattle.paging.specs.declared.reasons.Refusal.{Refusal}
+use Rattle.paging.specs.declared.reasons.Refusal.TheVariants.{BufferSize, BundleSize, TraceTooLong, WrongMark, CutShort, WrongRecord, TooManyHeld, TooLittleRoom, IllFormed, TableFull, PageTwice, CounterFull, EmptyRun}
 use lib.Dec.{eqb}
 use lib.ListN.{length}
 use borrow.Author.Tests.{eq-eqb, eqb-true, ltb-true}
@@ -17,23 +21,45 @@ use Rattle.layers.specs.LowestLayer.{LowestLayerTold}
 use Rattle.layers.specs.Questions.{layers_in, Verdict, refused_with, possible_set, count_differs, broken_at, verdict_of, judged, possible_refusal, verdict}
 use Rattle.layers.specs.declared.LayersRun.{LayersRun}
 use Rattle.layers.specs.declared.PossibleAnswer.{PossibleAnswer}
-use Rattle.layers.specs.declared.PossibleAnswer.TheVariants.{Yes, CountDiffers, BrokenAt, Refused}
+use Rattle.layers.specs.declared.PossibleAnswer.TheVariants.{Yes, CountDiffers, BrokenAt}
 
 -- Each verdict is that of one answer
 
-abbrev answer_of : Verdict → PossibleAnswer
-answer_of (refused_with number) = Refused number
-answer_of possible_set = Yes
-answer_of count_differs = CountDiffers
-answer_of (broken_at layer) = BrokenAt layer
+-- the reason of a number
+abbrev reason_of : ℕ → Refusal
+reason_of n =
+    pick (eqb n 1) BufferSize (pick (eqb n 2) BundleSize (pick (eqb n 3) TraceTooLong (pick (eqb n 4) WrongMark (pick (eqb n 5) CutShort
+    (pick (eqb n 6) WrongRecord (pick (eqb n 7) TooManyHeld (pick (eqb n 8) TooLittleRoom (pick (eqb n 9) IllFormed (pick (eqb n 10) TableFull
+    (pick (eqb n 11) PageTwice (pick (eqb n 12) CounterFull EmptyRun)))))))))))
 
-answer_back : (r : PossibleAnswer) → answer_of (verdict_of r) ≡ r
-answer_back Yes = refl
-answer_back CountDiffers = refl
-answer_back (BrokenAt i) = refl
-answer_back (Refused number) = refl
+reason_back : (reason : Refusal) → reason_of (number_of reason) ≡ reason
+reason_back BufferSize = refl
+reason_back BundleSize = refl
+reason_back TraceTooLong = refl
+reason_back WrongMark = refl
+reason_back CutShort = refl
+reason_back WrongRecord = refl
+reason_back TooManyHeld = refl
+reason_back TooLittleRoom = refl
+reason_back IllFormed = refl
+reason_back TableFull = refl
+reason_back PageTwice = refl
+reason_back CounterFull = refl
+reason_back EmptyRun = refl
 
-same_answer : (r r' : PossibleAnswer) → verdict_of r ≡ verdict_of r' → r ≡ r'
+abbrev answer_of : Verdict → Result PossibleAnswer Refusal
+answer_of (refused_with number) = Err (reason_of number)
+answer_of possible_set = Ok Yes
+answer_of count_differs = Ok CountDiffers
+answer_of (broken_at layer) = Ok (BrokenAt layer)
+
+answer_back : (r : Result PossibleAnswer Refusal) → answer_of (verdict_of r) ≡ r
+answer_back (Ok Yes) = refl
+answer_back (Ok CountDiffers) = refl
+answer_back (Ok (BrokenAt i)) = refl
+answer_back (Err reason) = ap (λ (e : Refusal). Err e) (reason_back reason)
+
+same_answer : (r r' : Result PossibleAnswer Refusal) → verdict_of r ≡ verdict_of r' → r ≡ r'
 same_answer r r' e = sym (answer_back r) ∙ ap answer_of e ∙ answer_back r'
 
 abbrev is_possible : Verdict → Bool
@@ -76,16 +102,16 @@ judged_possible L set = one (eqb (length set) L.top) (holds_up_to L set L.top) (
     one true false layer = unfold ◌and◌ in refl
     one false c layer = unfold ◌and◌ in refl
 
-module _ (L : Layers) (set : List ℕ) (r : PossibleAnswer) (told : verdict_of r ≡ judged L set) where
+module _ (L : Layers) (set : List ℕ) (r : Result PossibleAnswer Refusal) (told : verdict_of r ≡ judged L set) where
   -- it is answered with Yes exactly if it is possible
-  pub yes_is_possible : (r ≡ Yes) ↔ (possible L set ≡ true)
+  pub yes_is_possible : (r ≡ Ok Yes) ↔ (possible L set ≡ true)
   yes_is_possible = (
     λ e. sym (judged_possible L set) ∙ sym (ap is_possible told) ∙ ap (λ z. is_possible (verdict_of z)) e,
-    λ e. same_answer r Yes (told ∙ judged_yes L set e),
+    λ e. same_answer r (Ok Yes) (told ∙ judged_yes L set e),
   )
 
   -- and a layer is named exactly if the set has s pages and the rule breaks there and at no layer below
-  pub broken_is_first : (i : ℕ) → (r ≡ BrokenAt i) ↔ ((length set ≡ L.top) × BreaksFirstAt L set i)
+  pub broken_is_first : (i : ℕ) → (r ≡ Ok (BrokenAt i)) ↔ ((length set ≡ L.top) × BreaksFirstAt L set i)
   broken_is_first i = (
     λ e. judged_names L set i (sym (ap verdict_of e) ∙ told),
     λ f.
@@ -93,7 +119,7 @@ module _ (L : Layers) (set : List ℕ) (r : PossibleAnswer) (told : verdict_of r
         let size = f.0 in
         let low = breaks_below L set i B.breaks in
         let bad = holds_not L set L.top i (omega arith) (ltb-true i _ B.breaks) in
-        same_answer r (BrokenAt i)
+        same_answer r (Ok (BrokenAt i))
         (told ∙ judged_breaks L set size bad ∙ ap broken_at (first_is_lowest L set L.top i (omega arith) B)),
   )
 
@@ -113,8 +139,8 @@ named_taken run pages numbers set i told =
     (λ e. let none : suc i ≡ 0 = ap behind_layer (rw e at told) in absurd (omega arith))
 
 module _ (run : LayersRun) (pages numbers set : List ℕ) where
-  named_exactly : (r : PossibleAnswer) → verdict_of r ≡ verdict run pages numbers set → (i : ℕ)
-      → (r ≡ BrokenAt i)
+  named_exactly : (r : Result PossibleAnswer Refusal) → verdict_of r ≡ verdict run pages numbers set → (i : ℕ)
+      → (r ≡ Ok (BrokenAt i))
       ↔ ((possible_refusal run pages numbers set ≡ 0) × (length set ≡ run.s) × BreaksFirstAt (layers_in run (rows_of numbers pages)) set i)
   named_exactly r told i = (
     λ e.

@@ -1,9 +1,10 @@
 -- The layers over a whole trace: what is refused before the first request, a table too small on the way, and the table at the end.
 use Prim.Native.Nat.{ℕ, ◌≤◌}
 use native.Mathlib.Omega.{arith}
-use mathlib.Core.Bool.{Bool, true, false, not}
+use mathlib.Core.Bool.{Bool, true, not}
 use mathlib.Core.List.{List, [], ◌∷◌}
 use mathlib.Core.Path.{◌≡◌, refl, sym, ap, ◌∙◌}
+use Rattle.std.specs.Prelude.{Option, Some, None, is_none}
 use lib.Dec.{eqb}
 use lib.ListN.{length, replicate}
 use borrow.Author.Tests.{ne_eqb, eqb-true, not-false}
@@ -17,8 +18,7 @@ use Rattle.paging.proofs.Refusals.{zero_pass, Chain, chain_end, chain_refuse, ch
 use Rattle.paging.proofs.Rows.{numbers_back, pages_back}
 use Rattle.table.specs.Serving.{Sound}
 use Rattle.layers.specs.Formed.{is_unused}
-use Rattle.layers.specs.Traces.{all_unused, trace_totals, pages_over, numbers_over, early_refusal, over_refusal}
-use Rattle.layers.specs.declared.LayersTotals.{LayersTotals}
+use Rattle.layers.specs.Traces.{LayersTotalsAnswer, all_unused, trace_totals, pages_over, numbers_over, early_refusal, over_refusal}
 use Rattle.layers.specs.declared.trace.Served.{Served}
 use Rattle.layers.specs.inner.Over.{ServedTo}
 use Rattle.layers.specs.inner.Sizes.{numbered}
@@ -80,13 +80,13 @@ blank_rows (n ∷ ns) (p ∷ ps) e u =
 
 module _ (k a : ℕ) (trace pages numbers : List ℕ) where
   refused_over : (number : ℕ) → (number ≡ 0 → ⊥) → over_refusal k a trace pages numbers ≡ number
-      → (◌≡◌ {A = LayersTotals} (record { refusal = number; bundles = 0; s = 0; revealed = 0 }) (trace_totals k a trace pages numbers))
+      → (◌≡◌ {A = LayersTotalsAnswer} (record { refusal = number; bundles = 0; s = 0; revealed = 0 }) (trace_totals k a trace pages numbers))
       × (pages ≡ pages_over k a trace pages numbers) × (numbers ≡ numbers_over k a trace pages numbers)
   unfolding trace_totals pages_over numbers_over
   refused_over number n e = (rw (e, ne_eqb number 0 n) refl, rw (e, ne_eqb number 0 n) refl, rw (e, ne_eqb number 0 n) refl)
 
   pub over_early : (number : ℕ) → number ≡ early_refusal k a trace pages numbers 0 → (number ≡ 0 → ⊥)
-      → (◌≡◌ {A = LayersTotals} (record { refusal = number; bundles = 0; s = 0; revealed = 0 }) (trace_totals k a trace pages numbers))
+      → (◌≡◌ {A = LayersTotalsAnswer} (record { refusal = number; bundles = 0; s = 0; revealed = 0 }) (trace_totals k a trace pages numbers))
       × (pages ≡ pages_over k a trace pages numbers) × (numbers ≡ numbers_over k a trace pages numbers)
   over_early number e n = refused_over number n (early_falls k a trace pages numbers number _ e n)
 
@@ -97,40 +97,44 @@ module _ (k a : ℕ) (trace pages numbers : List ℕ) where
       let z = b.sizes in
       (b.even, record { sizes = z; s_high = omega arith }, b.short, (blank_rows numbers pages b.even b.blank).2)
 
-  module _ (begins : 0 ≡ early_refusal k a trace pages numbers 0) (r : Served) (ps ns : List ℕ) (told : ServedTo k a trace (length pages) (rows_of ns ps) r) where
+  module _ (begins : 0 ≡ early_refusal k a trace pages numbers 0) (ps ns : List ℕ) where
     begun : Begun k a trace pages numbers
     begun = (early_passes k a trace pages numbers begins).0
 
-    refusal_is : over_refusal k a trace pages numbers ≡ refuse r.full 10 0
-    refusal_is =
+    refusal_is : (r : Option Served) → ServedTo k a trace (length pages) (rows_of ns ps) r → over_refusal k a trace pages numbers ≡ refuse (is_none r) 10 0
+    refusal_is r told =
         (early_passes k a trace pages numbers begins).1 _
         ∙ ap (λ (b : Bool). refuse b 10 0) (sym told.full_told)
 
-    pub over_full : (p q : List ℕ) (m n : ℕ) → r.full ≡ true → m ≡ length pages → n ≡ length numbers → p ≡ replicate m 0 → q ≡ replicate n 0
-        → (◌≡◌ {A = LayersTotals} (record { refusal = 10; bundles = 0; s = 0; revealed = 0 }) (trace_totals k a trace pages numbers))
+    pub over_full : (p q : List ℕ) (m n : ℕ) → ServedTo k a trace (length pages) (rows_of ns ps) None
+        → m ≡ length pages → n ≡ length numbers → p ≡ replicate m 0 → q ≡ replicate n 0
+        → (◌≡◌ {A = LayersTotalsAnswer} (record { refusal = 10; bundles = 0; s = 0; revealed = 0 }) (trace_totals k a trace pages numbers))
         × (p ≡ pages_over k a trace pages numbers) × (q ≡ numbers_over k a trace pages numbers)
-    over_full p q m n f mp nq ep en =
+    over_full p q m n told mp nq ep en =
         let blank = blank_rows numbers pages begun.even begun.blank in
-        let z = refused_over 10 (λ z. omega arith) (refusal_is ∙ rw f refl) in
+        let z = refused_over 10 (λ z. omega arith) (refusal_is None told) in
         (z.0, ep ∙ rw mp (sym blank.0) ∙ z.1, en ∙ rw nq (sym blank.1) ∙ z.2)
 
     rows_used_lem : used_rows (table_of (length pages) (tabled_after k a trace nothing_yet).rows) ≡ (tabled_after k a trace nothing_yet).rows
     rows_used_lem = let b = begun.sizes in used_table (length pages) _ (tabled_formed k a b.a_low b.a_high trace).above
 
-    pub over_done : (shown : ℕ) → r.full ≡ false → length ps ≡ length pages → length ns ≡ length numbers → shown ≡ revealed r.s (numbered ns)
-        → (◌≡◌ {A = LayersTotals} (record { refusal = 0; bundles = r.joins; s = r.s; revealed = shown }) (trace_totals k a trace pages numbers))
-        × (ps ≡ pages_over k a trace pages numbers) × (ns ≡ numbers_over k a trace pages numbers)
-    unfolding trace_totals pages_over numbers_over
-    over_done shown f ep en v =
-        let e : length ps ≡ length ns = ep ∙ begun.even ∙ sym en in
-        let z : over_refusal k a trace pages numbers ≡ 0 = refusal_is ∙ rw f refl in
-        let rows = told.rows_told f in
-        let shown_is : shown ≡ revealed r.s (tabled_after k a trace nothing_yet).rows = v ∙ revealed_used ns ps r.s e ∙ rw (rows, rows_used_lem) refl in (
-          rw (z, shown_is, told.s_told f, told.joins_told f) refl,
-          rw z (sym (pages_back ns ps e) ∙ ap pages_of rows),
-          rw z (sym (numbers_back ns ps e) ∙ ap numbers_of rows),
-        )
+    module _ (r : Served) (told : ServedTo k a trace (length pages) (rows_of ns ps) (Some r)) where
+      pub over_done : (shown : ℕ) → length ps ≡ length pages → length ns ≡ length numbers → shown ≡ revealed r.s (numbered ns)
+          → (◌≡◌ {A = LayersTotalsAnswer} (record { refusal = 0; bundles = r.joins; s = r.s; revealed = shown }) (trace_totals k a trace pages numbers))
+          × (ps ≡ pages_over k a trace pages numbers) × (ns ≡ numbers_over k a trace pages numbers)
+      unfolding trace_totals pages_over numbers_over
+      over_done shown ep en v =
+          let e : length ps ≡ length ns = ep ∙ begun.even ∙ sym en in
+          let z : over_refusal k a trace pages numbers ≡ 0 = refusal_is (Some r) told in
+          let t = told.served_told in
+          let rows = t.rows_told in
+          let shown_is : shown ≡ revealed r.s (tabled_after k a trace nothing_yet).rows = v ∙ revealed_used ns ps r.s e ∙ rw (rows, rows_used_lem) refl in (
+            rw (z, shown_is, t.s_told, t.joins_told) refl,
+            rw z (sym (pages_back ns ps e) ∙ ap pages_of rows),
+            rw z (sym (numbers_back ns ps e) ∙ ap numbers_of rows),
+          )
 
-    pub s_small : r.full ≡ false → r.s ≤ 256
-    s_small f = let b = begun.sizes in
-        let g = (tabled_formed k a b.a_low b.a_high trace).most in omega (arith, told.s_told f, b.k_high)
+      pub s_small : r.s ≤ 256
+      s_small =
+          let b = begun.sizes in
+          let g = (tabled_formed k a b.a_low b.a_high trace).most in omega (arith, told.served_told.s_told, b.k_high)

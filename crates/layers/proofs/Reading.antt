@@ -5,14 +5,17 @@ use native.Mathlib.Omega.{arith}
 use mathlib.Core.Bool.{Bool, true, false}
 use mathlib.Core.List.{List, [], ◌∷◌}
 use mathlib.Core.Path.{◌≡◌, refl, sym, ap, ◌∙◌}
-use lib.Dec.{eqb, ltb}
+use lib.Dec.{eqb, leb, ltb}
 use lib.ListN.{length, take, drop, get_or, set, replicate, drop_of_length-le, length-set, get_or-replicate, length-replicate}
 use lib.Seq.{drop-cons, take-suc, take_all, get_or-set_same, get_or-set_other, length-take-le}
-use borrow.Author.Tests.{ne_eqb, lt-ltb, le-ltb, le-leb, lt-leb, eqb-true, eqb-false}
+use mir.Val.{bool_byte}
+use Rattle.std.specs.List.{list_all}
+use Rattle.std.proofs.Common.{zero-add}
+use borrow.Author.Tests.{ne_eqb, lt-ltb, le-ltb, le-leb, lt-leb, leb-true, leb-false, eqb-true, eqb-false}
 use Rattle.lists.specs.Choice.{◌and◌, ◌or◌}
 use Rattle.lists.specs.Pages.{count, bit}
 use Rattle.lists.specs.Sorting.{Row, row_before}
-use Rattle.lists.proofs.Choice.{tests, cases, and_false_l, or_l, bit_true}
+use Rattle.lists.proofs.Choice.{tests, cases, and_false_l, or_l}
 use Rattle.lists.proofs.Pages.{count_snoc, count_length}
 use Rattle.paging.specs.Rows.{row_at, rows_of, unused}
 use Rattle.paging.specs.Table.{above_zero}
@@ -100,23 +103,18 @@ count_next f ns i h = rw (add-one i, take-suc ns i 0 h) (count_snoc f (take i ns
 pub count_whole : (f : ℕ → Bool) (ns : List ℕ) (i : ℕ) → length ns ≤ i → count f (take i ns) ≡ count f ns
 count_whole f ns i h = rw (take_all i ns h)
 
-pub used_one : (ns : List ℕ) (i n : ℕ) → i < length ns → n ≡ count (λ m. ltb 0 m) (take i ns) → 0 < get_or ns i 0 → n + 1 ≡ count (λ m. ltb 0 m) (take (i + 1) ns)
-used_one ns i n h was up = rw (count_next (λ m. ltb 0 m) ns i h, lt-ltb 0 (get_or ns i 0) up) (omega arith)
+pub used_next : (ns : List ℕ) (i n : ℕ) → i < length ns → n ≡ count (λ m. ltb 0 m) (take i ns) → n + bool_byte (ltb 0 (get_or ns i 0)) ≡ count (λ m. ltb 0 m) (take (i + 1) ns)
+used_next ns i n h was =
+    rw (count_next (λ m. ltb 0 m) ns i h)
+    (cases (ltb 0 (get_or ns i 0)) (λ e. rw e (omega arith)) (λ e. rw e (omega arith)))
 
-pub used_none : (ns : List ℕ) (i n : ℕ) → i < length ns → n ≡ count (λ m. ltb 0 m) (take i ns) → get_or ns i 0 ≤ 0 → n ≡ count (λ m. ltb 0 m) (take (i + 1) ns)
-used_none ns i n h was up = rw (count_next (λ m. ltb 0 m) ns i h, le-ltb 0 (get_or ns i 0) up) (omega arith)
-
-pub above_next : (ns : List ℕ) (s i : ℕ) → i < length ns → count (λ n. ltb s n) (take i ns) ≡ 0 → get_or ns i 0 ≤ s → count (λ n. ltb s n) (take (i + 1) ns) ≡ 0
-above_next ns s i h was low = rw (count_next (λ n. ltb s n) ns i h, le-ltb s (get_or ns i 0) low) (omega arith)
-
--- one number above s is enough
-above_some : (ns : List ℕ) (s i : ℕ) → i < length ns → s < get_or ns i 0 → 1 ≤ count (λ n. ltb s n) ns
-above_some [] s i h high = absurd (omega arith)
-above_some (m ∷ ns) s zero h high = omega (arith, bit_true (ltb s m) (lt-ltb s m high))
-above_some (m ∷ ns) s (suc i) h high = omega (arith, above_some ns s i (omega arith) high)
-
-pub above_found : (ns : List ℕ) (s i : ℕ) → i < length ns → s < get_or ns i 0 → false ≡ eqb (count (λ n. ltb s n) ns) 0
-above_found ns s i h high = let some = above_some ns s i h high in sym (ne_eqb (count (λ n. ltb s n) ns) 0 (λ z. omega arith))
+-- no number is above s if all are at most s
+pub all_low : (s : ℕ) (ns : List ℕ) → list_all (λ n. leb n s) ns ≡ eqb (count (λ n. ltb s n) ns) 0
+all_low s [] = refl
+all_low s (m ∷ ns) =
+    cases (leb m s)
+    (λ e. let h = leb-true m s e in rw (e, le-ltb s m h, zero-add (count (λ n. ltb s n) ns)) (all_low s ns))
+    (λ e. let h = leb-false m s e in rw (e, lt-ltb s m h) (sym (ne_eqb (1 + count (λ n. ltb s n) ns) 0 (λ z. omega arith))))
 
 -- The sizes
 

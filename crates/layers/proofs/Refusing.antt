@@ -3,15 +3,19 @@ use Prim.Native.Nat.{ℕ, ◌<◌}
 use native.Mathlib.Omega.{arith}
 use mathlib.Core.Bool.{true, false, not}
 use mathlib.Core.List.{List}
-use mathlib.Core.Path.{◌≡◌, sym, ap, ◌∙◌}
-use lib.Dec.{eqb, ltb}
+use mathlib.Core.Path.{◌≡◌, refl, sym, ap, ◌∙◌}
+use Rattle.std.specs.Prelude.{Option, Some, None, is_none}
+use lib.Dec.{eqb}
 use lib.ListN.{length}
 use borrow.Author.Tests.{eq-eqb, ne_eqb, eqb-true, leb-true, not-false}
 use Rattle.lists.specs.Sorting.{Row}
 use Rattle.paging.specs.Layers.{top_after}
+use Rattle.paging.specs.Numbers.{number_of}
 use Rattle.paging.specs.Refusals.{sizes_refusal, SizesRight, refuse}
 use Rattle.paging.specs.Rows.{rows_of, numbers_of, pages_of, used_rows, table_of}
 use Rattle.paging.specs.Table.{rule_in}
+use Rattle.paging.specs.declared.reasons.Refusal.{Refusal}
+use Rattle.paging.specs.declared.reasons.Refusal.TheVariants.{BufferSize, BundleSize, TraceTooLong, WrongMark, CutShort, WrongRecord, TooManyHeld, TooLittleRoom, IllFormed, TableFull, PageTwice, CounterFull, EmptyRun}
 use Rattle.paging.proofs.Refusals.{zero_pass, Chain, chain_end, chain_refuse, chain_behind, chain_fall, sizes_chain, sizes_pass, sizes_fall, sizes_rest, sizes_taken}
 use Rattle.paging.proofs.Rows.{numbers_back, pages_back}
 use Rattle.table.specs.Serving.{Sound, SteppedTo, rule_of}
@@ -23,6 +27,27 @@ use Rattle.layers.specs.declared.LayersRun.{LayersRun}
 use Rattle.layers.specs.inner.Counting.{CountersFit}
 use Rattle.layers.proofs.WellFormed.{facts, well_table, well_counts}
 
+-- A reason has a number, and a call that answers none has a result
+
+pub number_above : (reason : Refusal) → number_of reason ≡ 0 → ⊥
+number_above BufferSize z = absurd (omega arith)
+number_above BundleSize z = absurd (omega arith)
+number_above TraceTooLong z = absurd (omega arith)
+number_above WrongMark z = absurd (omega arith)
+number_above CutShort z = absurd (omega arith)
+number_above WrongRecord z = absurd (omega arith)
+number_above TooManyHeld z = absurd (omega arith)
+number_above TooLittleRoom z = absurd (omega arith)
+number_above IllFormed z = absurd (omega arith)
+number_above TableFull z = absurd (omega arith)
+number_above PageTwice z = absurd (omega arith)
+number_above CounterFull z = absurd (omega arith)
+number_above EmptyRun z = absurd (omega arith)
+
+pub none_left : {A : Type 0} (o : Option A) → ((x : A) → o ≡ Some x → ⊥) → o ≡ None
+none_left None h = refl
+none_left (Some x) h = absurd (h x refl)
+
 -- The state
 
 -- what is known where no call on the state is refused with 1, 2, 8 or 9
@@ -32,18 +57,23 @@ pub record StateReady (run : LayersRun) (pages numbers : List ℕ) : Type 0 wher
   pub formed : layers_well_formed run (rows_of numbers pages) ≡ true
 
 module _ (run : LayersRun) (pages numbers : List ℕ) where
-  pub state_sizes : (number : ℕ) → number ≡ sizes_refusal run.k run.a 0 → (number ≡ 0 → ⊥) → (rest : ℕ) → state_refusal run pages numbers rest ≡ number
+  pub state_sizes : (number : ℕ) → number ≡ sizes_refusal run.k run.a 0 → (number ≡ 0 → ⊥) → number ≡ state_refusal run pages numbers 0
   unfolding state_refusal
-  state_sizes number e n rest = sizes_fall run.k run.a _ number e n
+  state_sizes number e n = sym (sizes_fall run.k run.a _ number e n)
 
-  pub state_uneven : sizes_refusal run.k run.a 0 ≡ 0 → (length pages ≡ length numbers → ⊥) → (rest : ℕ) → state_refusal run pages numbers rest ≡ 8
+  pub state_uneven : 0 ≡ sizes_refusal run.k run.a 0 → (length pages ≡ length numbers → ⊥) → 8 ≡ state_refusal run pages numbers 0
   unfolding state_refusal
-  state_uneven e u rest = sizes_pass run.k run.a _ e ∙ rw (ne_eqb (length pages) (length numbers) u)
+  state_uneven z u = sym (sizes_pass run.k run.a _ (sym z) ∙ rw (ne_eqb (length pages) (length numbers) u))
 
-  pub state_ill : sizes_refusal run.k run.a 0 ≡ 0 → length pages ≡ length numbers → layers_well_formed run (rows_of numbers pages) ≡ false → (rest : ℕ)
-      → state_refusal run pages numbers rest ≡ 9
+  pub state_ill : 0 ≡ sizes_refusal run.k run.a 0 → length pages ≡ length numbers → false ≡ layers_well_formed run (rows_of numbers pages)
+      → 9 ≡ state_refusal run pages numbers 0
   unfolding state_refusal
-  state_ill e u w rest = sizes_pass run.k run.a _ e ∙ rw (eq-eqb (length pages) (length numbers) u, w)
+  state_ill z u w = sym (sizes_pass run.k run.a _ (sym z) ∙ rw (eq-eqb (length pages) (length numbers) u, ← w))
+
+  pub state_none : 0 ≡ sizes_refusal run.k run.a 0 → length pages ≡ length numbers → true ≡ layers_well_formed run (rows_of numbers pages)
+      → 0 ≡ state_refusal run pages numbers 0
+  unfolding state_refusal
+  state_none z u w = sym (sizes_pass run.k run.a _ (sym z) ∙ rw (eq-eqb (length pages) (length numbers) u, ← w))
 
   pub state_pass : StateReady run pages numbers → (rest : ℕ) → state_refusal run pages numbers rest ≡ rest
   unfolding state_refusal
@@ -71,6 +101,8 @@ module _ (run : LayersRun) (pages numbers : List ℕ) where
 
   pub state_fall : (number : ℕ) → number ≡ state_refusal run pages numbers 0 → (number ≡ 0 → ⊥) → (rest : ℕ) → state_refusal run pages numbers rest ≡ number
   state_fall number e n rest = chain_fall (state_refusal run pages numbers) state_chain rest number e n
+
+pub ruleset state_rules = (state_sizes, state_uneven, state_ill, state_none)
 
 -- A request
 
@@ -106,45 +138,38 @@ module _ (run : LayersRun) (pages numbers : List ℕ) (p : ℕ) where
     unfolding request_refusal
     request_last e = state_pass run pages numbers (state_ready run pages numbers z) _ ∙ rw (eq-eqb run.requests 4294967295 e)
 
-    module _ (more : run.requests ≡ 4294967295 → ⊥) (r : Stepped) (rows' : List Row)
+    module _ (more : run.requests ≡ 4294967295 → ⊥) (r : Option Stepped) (rows' : List Row)
         (t : SteppedTo run.k run.a run.s p (length pages) (rows_of numbers pages) rows' r) where
-      room : ltb (length pages) (length (rows_next run p (rows_of numbers pages))) ≡ r.full
-      room = rw (used_rows_lem run.k run.a run.s p (rows_of numbers pages)) (sym t.full_told)
-
-      -- refused for want of places
-      pub request_full : r.full ≡ true → request_refusal run pages numbers p ≡ 10
+      request_judged : request_refusal run pages numbers p ≡ refuse (is_none r) 10 0
       unfolding request_refusal
-      request_full e =
+      request_judged =
           state_pass run pages numbers (state_ready run pages numbers z) _
-          ∙ rw (ne_eqb run.requests 4294967295 more, room, e)
+          ∙ rw (ne_eqb run.requests 4294967295 more, used_rows_lem run.k run.a run.s p (rows_of numbers pages), t.full_told)
 
-      request_none : r.full ≡ false → request_refusal run pages numbers p ≡ 0
-      unfolding request_refusal
-      request_none e =
-          state_pass run pages numbers (state_ready run pages numbers z) _
-          ∙ rw (ne_eqb run.requests 4294967295 more, room, e)
+    -- refused for want of places: the table is as it was
+    pub request_full : (more : run.requests ≡ 4294967295 → ⊥) (rows' : List Row)
+        → SteppedTo run.k run.a run.s p (length pages) (rows_of numbers pages) rows' None
+        → (request_refusal run pages numbers p ≡ 10) × (rows' ≡ rows_of numbers pages)
+    request_full more rows' t = (request_judged more None rows' t, t.rows_told)
 
-      -- the table of a refused step is as it was
-      pub rows_kept : r.full ≡ true → rows' ≡ rows_of numbers pages
-      rows_kept e = t.rows_told ∙ rw e
-
-      -- served
-      pub request_served : (pages' numbers' : List ℕ) → r.full ≡ false → rows' ≡ rows_of numbers' pages' → length pages' ≡ length numbers'
-          → (reply_by (rule_of r.rule) r.s run ≡ request_reply run pages numbers p)
-          × (pages' ≡ pages_next run pages numbers p) × (numbers' ≡ numbers_next run pages numbers p)
-      unfolding request_reply pages_next numbers_next
-      request_served pages' numbers' e er l =
-          let free = request_none e in
-          let table : rows_of numbers' pages' ≡ table_of (length pages) (rows_next run p (rows_of numbers pages)) =
-          sym er ∙ t.rows_told ∙ rw (e, used_rows_lem run.k run.a run.s p (rows_of numbers pages)) in
-          let rule : rule_of r.rule ≡ rule_in run.k run.s p (used_rows (rows_of numbers pages)) =
-          t.rule_told ∙ sym (used_rule run.k run.s p (rows_of numbers pages)) in
-          let top : r.s ≡ top_after (rule_in run.k run.s p (used_rows (rows_of numbers pages))) run.k run.a run.s =
-          t.top_told ∙ rw (e, used_rule run.k run.s p (rows_of numbers pages)) in (
-            rw (free, rule, top),
-            rw free (sym (pages_back numbers' pages' l) ∙ ap pages_of table),
-            rw free (sym (numbers_back numbers' pages' l) ∙ ap numbers_of table),
-          )
+    -- served
+    pub request_served : (more : run.requests ≡ 4294967295 → ⊥) (d : Stepped) (pages' numbers' : List ℕ)
+        → SteppedTo run.k run.a run.s p (length pages) (rows_of numbers pages) (rows_of numbers' pages') (Some d) → length pages' ≡ length numbers'
+        → (reply_by (rule_of d.rule) d.s run ≡ request_reply run pages numbers p)
+        × (pages' ≡ pages_next run pages numbers p) × (numbers' ≡ numbers_next run pages numbers p)
+    unfolding request_reply pages_next numbers_next
+    request_served more d pages' numbers' t l =
+        let free : request_refusal run pages numbers p ≡ 0 = request_judged more (Some d) (rows_of numbers' pages') t in
+        let table : rows_of numbers' pages' ≡ table_of (length pages) (rows_next run p (rows_of numbers pages)) =
+        t.rows_told ∙ rw (used_rows_lem run.k run.a run.s p (rows_of numbers pages)) in
+        let rule : rule_of d.rule ≡ rule_in run.k run.s p (used_rows (rows_of numbers pages)) =
+        t.done_told.rule_told ∙ sym (used_rule run.k run.s p (rows_of numbers pages)) in
+        let top : d.s ≡ top_after (rule_in run.k run.s p (used_rows (rows_of numbers pages))) run.k run.a run.s =
+        t.done_told.top_told ∙ rw (used_rule run.k run.s p (rows_of numbers pages)) in (
+          rw (free, rule, top),
+          rw free (sym (pages_back numbers' pages' l) ∙ ap pages_of table),
+          rw free (sym (numbers_back numbers' pages' l) ∙ ap numbers_of table),
+        )
 
 -- lists that make the same rows are the same
 pub pages_same : (numbers pages numbers' pages' : List ℕ) → length pages ≡ length numbers → length pages' ≡ length numbers'

@@ -6,6 +6,8 @@ use mathlib.Core.Bool.{Bool, true, false, not}
 use mathlib.Core.List.{List, [], ◌∷◌, ◌++◌}
 use mathlib.Core.Logic.{◌↔◌}
 use mathlib.Core.Path.{◌≡◌, refl, sym, ap, subst, ◌∙◌}
+use Rattle.std.specs.Prelude.{Result, Ok}
+use Rattle.paging.specs.declared.reasons.Refusal.{Refusal}
 use lib.Dec.{eqb, ltb}
 use lib.ListN.{length, replicate, length-append, length-replicate}
 use borrow.Author.Tests.{eq-eqb, ne_eqb, le-ltb, ltb-false}
@@ -273,12 +275,12 @@ module _ (k a : ℕ) (trace : List ℕ) (run : LayersRun) (pages numbers : List 
       (ap (λ L. judged L set) layers_agree)
 
 module _ (k a : ℕ) (trace : List ℕ) (run : LayersRun) (pages numbers : List ℕ) (S : Stands k a trace run pages numbers) (set : List ℕ)
-    (r : PossibleAnswer) (told : verdict_of r ≡ verdict run pages numbers set) where
+    (r : Result PossibleAnswer Refusal) (told : verdict_of r ≡ verdict run pages numbers set) where
   judged_by_trace : distinct set ≡ true → verdict_of r ≡ judged (layers_after k a trace no_layers) set
   judged_by_trace d = told ∙ verdict_agrees k a trace run pages numbers S set d
 
   -- an answer that keeps the promise of the question is Yes exactly if the set is possible by the layers of the trace
-  pub yes_exactly : distinct set ≡ true → (r ≡ Yes) ↔ (possible (layers_after k a trace no_layers) set ≡ true)
+  pub yes_exactly : distinct set ≡ true → (r ≡ Ok Yes) ↔ (possible (layers_after k a trace no_layers) set ≡ true)
   yes_exactly d = yes_is_possible (layers_after k a trace no_layers) set r (judged_by_trace d)
 
   -- a set that is not refused names no page twice
@@ -289,7 +291,7 @@ module _ (k a : ℕ) (trace : List ℕ) (run : LayersRun) (pages numbers : List 
 
   -- and it names a layer exactly if the set names no page twice and has s pages, and the rule breaks there and at no layer below
   pub named_by_trace : (i : ℕ)
-      → (r ≡ BrokenAt i) ↔ ((distinct set ≡ true) × (length set ≡ (layers_after k a trace no_layers).top) × BreaksFirstAt (layers_after k a trace no_layers) set i)
+      → (r ≡ Ok (BrokenAt i)) ↔ ((distinct set ≡ true) × (length set ≡ (layers_after k a trace no_layers).top) × BreaksFirstAt (layers_after k a trace no_layers) set i)
   named_by_trace i = (
     λ e.
         let d = taken_once (named_taken run pages numbers set i (sym (ap verdict_of e) ∙ told)) in

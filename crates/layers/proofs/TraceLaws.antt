@@ -6,23 +6,25 @@ use native.Mathlib.Omega.{arith}
 use mathlib.Core.Bool.{Bool, true, false}
 use mathlib.Core.List.{List, [], ◌∷◌, ◌++◌, append_assoc}
 use mathlib.Core.Path.{◌≡◌, refl, sym, ap, ◌∙◌}
-use lib.Dec.{ltb}
+use Rattle.std.specs.Prelude.{Option, Some, None, is_none, IfSome}
+use Rattle.std.specs.List.{list_all}
+use lib.Dec.{eqb, ltb}
 use lib.ListN.{length, take, drop, get_or, replicate, length-append, length-replicate, drop_of_length-le}
 use lib.Seq.{drop-cons, take_at, drop_at, length-take-le}
 use borrow.Author.Tests.{eq-eqb, ne_eqb, lt-ltb, le-ltb, ltb-true, ltb-false}
 use Rattle.lists.specs.Choice.{pick, ◌and◌, ◌or◌}
 use Rattle.lists.specs.Pages.{bit}
 use Rattle.lists.specs.Sorting.{Row}
-use Rattle.lists.proofs.Choice.{cases, clash}
+use Rattle.lists.proofs.Choice.{cases, clash, and_false_l, and_false_r}
 use Rattle.paging.specs.Layers.{LayerRule, is_join, top_after}
 use Rattle.paging.specs.Refusals.{trace_refusal}
-use Rattle.paging.specs.Rows.{rows_of, row_at, unused, used_rows, table_of}
+use Rattle.paging.specs.Rows.{rows_of, unused, used_rows, table_of}
 use Rattle.paging.specs.Table.{rule_in, rows_after, size_of, Tabled, nothing_yet, tabled_next, tabled_after}
 use Rattle.paging.proofs.Forming.{FormedRows, no_rows_formed, request_forms, one_row_more, used_table}
 use Rattle.paging.proofs.Refusals.{trace_fall, trace_pass}
-use Rattle.paging.proofs.Rows.{rows_length, rows_get, rows_take, rows_drop, rows_append}
+use Rattle.paging.proofs.Rows.{rows_take, rows_drop, rows_append}
 use Rattle.table.specs.Filling.{TableFilled}
-use Rattle.table.specs.Serving.{Sound, SteppedTo, rule_of}
+use Rattle.table.specs.Serving.{Sound, DoneBy, SteppedTo, rule_of}
 use Rattle.table.specs.declared.Stepped.{Stepped}
 use Rattle.table.proofs.Serving.{used_rows_lem, used_rule}
 use Rattle.layers.specs.Formed.{is_unused}
@@ -80,55 +82,50 @@ unfolding ◌or◌
 or_full x y e = rw e refl
 
 module _ (k a : ℕ) (trace : List ℕ) (places : ℕ) (rows : List Row) (s joins used i : ℕ) (Y : ServedSoFar k a trace places rows s joins used i) where
-  pub at_end : length trace ≤ i → ServedTo k a trace places rows (record { full = false; s = s; joins = joins })
+  pub at_end : length trace ≤ i → ServedTo k a trace places rows (Some (record { s = s; joins = joins }))
   at_end h =
       let none : drop i trace ≡ [] = drop_of_length-le trace h in
       let all : tabled_after k a trace nothing_yet ≡ tabled_in rows s joins = rw none at Y.left in
       record {
         full_told = sym (rw none at Y.full_left);
-        rows_told = λ _. rw all Y.shape;
-        s_told = λ _. rw all refl;
-        joins_told = λ _. rw all refl;
+        served_told = record { rows_told = rw all Y.shape; s_told = rw all refl; joins_told = rw all refl };
       }
 
-  module _ (h : i < length trace) (after : List Row) (r : Stepped) (told : SteppedTo k a s (get_or trace i 0) places rows after r) where
-    rest : drop i trace ≡ get_or trace i 0 ∷ drop (suc i) trace
-    rest = drop-cons trace i 0 h
+  module _ (h : i < length trace) (after : List Row) (r : Option Stepped) (told : SteppedTo k a s (get_or trace i 0) places rows after r) where
+    trace_next : drop i trace ≡ get_or trace i 0 ∷ drop (suc i) trace
+    trace_next = drop-cons trace i 0 h
 
-    room_told : r.full ≡ ltb places (length (rows_after k a s (get_or trace i 0) (used_rows rows)))
+    room_told : is_none r ≡ ltb places (length (rows_after k a s (get_or trace i 0) (used_rows rows)))
     room_told = told.full_told ∙ ap (λ (l : List Row). ltb places (length l)) (sym (used_rows_lem k a s (get_or trace i 0) rows))
 
-    pub joins_fit : (bundles : ℕ) → length trace ≤ 65536 → bundles ≡ bit (is_join (rule_of r.rule)) → joins + bundles < 4294967296
-    joins_fit bundles few b = omega (arith, Y.few, one_bundle (is_join (rule_of r.rule)))
-
-    pub too_full : r.full ≡ true → ServedTo k a trace places after (record { full = true; s = 0; joins = 0 })
+    pub too_full : is_none r ≡ true → ServedTo k a trace places after None
     too_full f =
         let z : overflows k a places (drop i trace) (tabled_in rows s joins)
         ≡ ltb places (length (rows_after k a s (get_or trace i 0) (used_rows rows))) or overflows k a places (drop (suc i) trace) (tabled_next k a (get_or trace i 0) (tabled_in rows s joins))
-        = ap (λ (l : List ℕ). overflows k a places l (tabled_in rows s joins)) rest in
-        record {
-          full_told = or_full _ _ (sym room_told ∙ f) ∙ sym (Y.full_left ∙ z);
-          rows_told = λ e. clash true refl e;
-          s_told = λ e. clash true refl e;
-          joins_told = λ e. clash true refl e;
-        }
+        = ap (λ (l : List ℕ). overflows k a places l (tabled_in rows s joins)) trace_next in
+        record { full_told = or_full _ _ (sym room_told ∙ f) ∙ sym (Y.full_left ∙ z); served_told = tt }
 
-    pub goes_on : (bundles : ℕ) → r.full ≡ false → bundles ≡ bit (is_join (rule_of r.rule))
+  module _ (h : i < length trace) (after : List Row) (r : Stepped) (told : SteppedTo k a s (get_or trace i 0) places rows after (Some r)) where
+    pub joins_fit : (bundles : ℕ) → length trace ≤ 65536 → bundles ≡ bit (is_join (rule_of r.rule)) → joins + bundles < 4294967296
+    joins_fit bundles few b = omega (arith, Y.few, one_bundle (is_join (rule_of r.rule)))
+
+    pub goes_on : (bundles : ℕ) → bundles ≡ bit (is_join (rule_of r.rule))
         → ServedSoFar k a trace places after r.s (joins + bundles) r.used (i + 1)
-    goes_on bundles f b =
+    goes_on bundles b =
         let p = get_or trace i 0 in
+        let room = room_told h after (Some r) told in
         let same : rows_after k a s p (used_rows rows) ≡ rows_after k a s p rows = used_rows_lem k a s p rows in
         let rule : rule_in k s p (used_rows rows) ≡ rule_in k s p rows = used_rule k s p rows in
-        let top : r.s ≡ top_after (rule_in k s p (used_rows rows)) k a s = told.top_told ∙ rw (f, rule) refl in
+        let top : r.s ≡ top_after (rule_in k s p (used_rows rows)) k a s = told.done_told.top_told ∙ rw rule refl in
         let formed : FormedRows k a r.s (rows_after k a s p (used_rows rows))
         = rw top (request_forms k a s p (used_rows rows) Y.sound.sizes.a_low Y.sound.sizes.a_high Y.formed) in
-        let table : after ≡ table_of places (rows_after k a s p (used_rows rows)) = told.rows_told ∙ rw (f, same) refl in
+        let table : after ≡ table_of places (rows_after k a s p (used_rows rows)) = told.rows_told ∙ rw same refl in
         let used-rows-are : used_rows after ≡ rows_after k a s p (used_rows rows) = rw table (used_table places _ formed.above) in
         let joined : joins + bundles ≡ joins + bit (is_join (rule_in k s p (used_rows rows)))
-        = ap (λ (n : ℕ). joins + n) (b ∙ ap (λ (x : LayerRule). bit (is_join x)) (told.rule_told ∙ sym rule)) in
+        = ap (λ (n : ℕ). joins + n) (b ∙ ap (λ (x : LayerRule). bit (is_join x)) (told.done_told.rule_told ∙ sym rule)) in
         let state : tabled_in after r.s (joins + bundles) ≡ tabled_next k a p (tabled_in rows s joins) = rw (used-rows-are, top, joined) refl in
-        let count : r.used ≡ length (rows_after k a s p (used_rows rows)) = told.used_told f ∙ ap (λ (l : List Row). length l) (sym same) in
-        let space : length (rows_after k a s p (used_rows rows)) ≤ places = ltb-false _ _ (sym room_told ∙ f) in
+        let count : r.used ≡ length (rows_after k a s p (used_rows rows)) = told.done_told.used_told ∙ ap (λ (l : List Row). length l) (sym same) in
+        let space : length (rows_after k a s p (used_rows rows)) ≤ places = ltb-false _ _ (sym room) in
         record {
           counted = count ∙ ap (λ (l : List Row). length l) (sym used-rows-are);
           fits = omega arith;
@@ -137,8 +134,8 @@ module _ (k a : ℕ) (trace : List ℕ) (places : ℕ) (rows : List Row) (s join
           few = omega (arith, Y.few, one_bundle (is_join (rule_of r.rule)));
           formed = rw used-rows-are formed;
           shape = table ∙ ap (table_of places) (sym used-rows-are);
-          left = Y.left ∙ rw (rest, add-one i, state) refl;
-          full_left = Y.full_left ∙ rw (rest, add-one i, state) (or_of _ _ (sym room_told ∙ f));
+          left = Y.left ∙ rw (trace_next h after (Some r) told, add-one i, state) refl;
+          full_left = Y.full_left ∙ rw (trace_next h after (Some r) told, add-one i, state) (or_of _ _ (sym room));
         }
 
 -- A request sees a prefix of the table alone, behind which all is unused
@@ -170,7 +167,7 @@ same_test m places n used h e g =
     t_true : places < n → ltb m n ≡ true
     t_true l = lt-ltb m n (omega arith)
 
-module _ (k a s p places used m : ℕ) (rows before after : List Row) (r : Stepped) (shape : rows ≡ table_of places (used_rows rows)) (above : size_of 0 (used_rows rows) ≡ 0)
+module _ (k a s p places used m : ℕ) (rows before after : List Row) (r : Option Stepped) (shape : rows ≡ table_of places (used_rows rows)) (above : size_of 0 (used_rows rows) ≡ 0)
     (counted : used ≡ length (used_rows rows)) (fits : used ≤ places) (m-is : m ≡ min (used + 1) places) (cut : before ≡ take m rows) (told : SteppedTo k a s p m before after r) where
   part_is : rows ≡ table_of m (used_rows rows) ++ replicate (places - m) unused
   part_is = shape ∙ table_parts (used_rows rows) m places (omega arith) (omega arith)
@@ -194,12 +191,12 @@ module _ (k a s p places used m : ℕ) (rows before after : List Row) (r : Stepp
   few : length (rows_after k a s p rows) ≤ used + 1
   few = rw counted (rw (used_rows_lem k a s p rows) at (one_row_more k a s p (used_rows rows)))
 
-  full_is : r.full ≡ ltb places (length (rows_after k a s p rows))
+  full_is : is_none r ≡ ltb places (length (rows_after k a s p rows))
   full_is = told.full_told ∙ rw same_rows (same_test m places (length (rows_after k a s p rows)) used few m-is fits)
 
-  together : after ++ drop m rows ≡ pick r.full rows (table_of places (rows_after k a s p rows))
+  together : after ++ drop m rows ≡ pick (is_none r) rows (table_of places (rows_after k a s p rows))
   together =
-      cases r.full
+      cases (is_none r)
       (λ t. let same : after ≡ before = told.rows_told ∙ rw t refl in rw (t, same, cut) (take_drop_rows rows m))
       (λ f. let new : after ≡ table_of m (rows_after k a s p rows) = told.rows_told ∙ rw (f, same_rows) refl in
       let n : length (rows_after k a s p rows) ≤ m = ltb-false m (length (rows_after k a s p rows)) (ap (λ (l : List Row). ltb m (length l)) (sym same_rows) ∙ sym told.full_told ∙ f) in
@@ -213,14 +210,16 @@ module _ (k a s p places used m : ℕ) (rows before after : List Row) (r : Stepp
   pub stepped_whole : SteppedTo k a s p places rows (after ++ drop m rows) r
   stepped_whole = record {
     full_told = full_is;
-    rule_told = told.rule_told ∙ same_rule;
-    top_told = told.top_told ∙ rw same_rule refl;
     rows_told = together;
-    used_told = λ f. told.used_told f ∙ rw same_rows refl;
+    done_told = done r told.done_told;
   }
+    where
+      done : (o : Option Stepped) → IfSome o (λ t. DoneBy k a s p before t) → IfSome o (λ t. DoneBy k a s p rows t)
+      done None d = tt
+      done (Some t) d = record { rule_told = d.rule_told ∙ same_rule; top_told = d.top_told ∙ rw same_rule refl; used_told = d.used_told ∙ rw same_rows refl }
 
 -- the same on the two lists
-pub stepped_lists : (k a : ℕ) (trace : List ℕ) (s p joins used i places m n : ℕ) (ns ps ns' ps' : List ℕ) (r : Stepped) → length ps ≡ places → length ns ≡ length ps
+pub stepped_lists : (k a : ℕ) (trace : List ℕ) (s p joins used i places m n : ℕ) (ns ps ns' ps' : List ℕ) (r : Option Stepped) → length ps ≡ places → length ns ≡ length ps
     → ServedSoFar k a trace places (rows_of ns ps) s joins used i → m ≡ min (used + 1) (length ps) → n ≡ length (take m ps) → length ps' ≡ length (take m ps)
     → length ns' ≡ length (take m ns)
     → SteppedTo k a s p n (rows_of (take m ns) (take m ps)) (rows_of ns' ps') r
@@ -254,53 +253,44 @@ filled_prefix k a trace s joins used i places m ns ps size len Y m-is =
       rest = rw (part, tp, drop_at U (replicate (m - length U) unused) used (sym n), n) refl;
     }
 
--- The look for unused places, in what is left of the table
+-- The look for unused places
 
-module _ (ns ps : List ℕ) (i : ℕ) (e : length ps ≡ length ns) (seen : all_unused (rows_of ns ps) ≡ all_unused (drop i (rows_of ns ps))) where
-  here : i < length ps → drop i (rows_of ns ps) ≡ row_at (get_or ns i 0) (get_or ps i 0) ∷ drop (suc i) (rows_of ns ps)
-  here h = drop-cons (rows_of ns ps) i unused (rw (rows_length ns ps e) h) ∙ rw (rows_get ns ps i e) refl
+pub blank_numbers : (ns ps : List ℕ) → length ps ≡ length ns → list_all (λ n. eqb n 0) ns ≡ false → false ≡ all_unused (rows_of ns ps)
+unfolding is_unused
+blank_numbers [] ps e z = clash true refl z
+blank_numbers (n ∷ ns) [] e z = absurd (omega (arith, e))
+blank_numbers (n ∷ ns) (p ∷ ps) e z =
+    cases (eqb n 0)
+    (λ t. let rest = blank_numbers ns ps (omega (arith, e)) (rw t at z) in sym (and_false_r _ _ (sym rest)))
+    (λ t. sym (and_false_l _ _ (and_false_l _ _ t)))
 
-  found : i < length ps → all_unused (rows_of ns ps) ≡ (is_unused (row_at (get_or ns i 0) (get_or ps i 0)) and all_unused (drop (suc i) (rows_of ns ps)))
-  found h = seen ∙ ap all_unused (here h)
-
-  pub unused_next : i < length ps → get_or ns i 0 ≡ 0 → get_or ps i 0 ≡ 0 → all_unused (rows_of ns ps) ≡ all_unused (drop (i + 1) (rows_of ns ps))
-  unfolding is_unused ◌and◌
-  unused_next h n p = rw (add-one i) (found h ∙ rw (n, p) refl)
-
-  pub unused_number : i < length ps → (get_or ns i 0 ≡ 0 → ⊥) → false ≡ all_unused (rows_of ns ps)
-  unfolding is_unused ◌and◌
-  unused_number h n = sym (found h ∙ rw (ne_eqb (get_or ns i 0) 0 n) refl)
-
-  pub unused_page : i < length ps → get_or ns i 0 ≡ 0 → (get_or ps i 0 ≡ 0 → ⊥) → false ≡ all_unused (rows_of ns ps)
-  unfolding is_unused ◌and◌
-  unused_page h n p = sym (found h ∙ rw (n, ne_eqb (get_or ps i 0) 0 p) refl)
-
-  pub unused_end : length ps ≤ i → true ≡ all_unused (rows_of ns ps)
-  unused_end h =
-      let past : length (rows_of ns ps) ≤ i = rw (rows_length ns ps e) h in
-      sym (seen ∙ ap all_unused (drop_of_length-le (rows_of ns ps) past))
+pub blank_pages : (ns ps : List ℕ) → length ps ≡ length ns → list_all (λ n. eqb n 0) ns ≡ true → list_all (λ p. eqb p 0) ps ≡ all_unused (rows_of ns ps)
+unfolding is_unused ◌and◌
+blank_pages [] [] e z = refl
+blank_pages [] (p ∷ ps) e z = absurd (omega (arith, e))
+blank_pages (n ∷ ns) [] e z = absurd (omega (arith, e))
+blank_pages (n ∷ ns) (p ∷ ps) e z =
+    cases (eqb n 0)
+    (λ t. let rest = blank_pages ns ps (omega (arith, e)) (rw t at z) in cases (eqb p 0) (λ u. rw (t, u) rest) (λ u. rw (t, u) refl))
+    (λ t. clash false (rw t at z) refl)
 
 -- The refusals judged before the first request
 
-module _ (k a : ℕ) (trace pages numbers : List ℕ) (number : ℕ) (e : number ≡ trace_refusal k a trace 0) where
-  pub early_trace : (rest : ℕ) → (number ≡ 0 → ⊥) → number ≡ early_refusal k a trace pages numbers rest
+module _ (k a : ℕ) (trace pages numbers : List ℕ) where
+  pub early_trace : (number : ℕ) → number ≡ trace_refusal k a trace 0 → (number ≡ 0 → ⊥) → number ≡ early_refusal k a trace pages numbers 0
   unfolding early_refusal
-  early_trace rest n = sym (trace_fall k a trace _ number e n)
+  early_trace number e n = sym (trace_fall k a trace _ number e n)
 
-  module _ (z : number ≡ 0) where
-    behind : (rest : ℕ) → trace_refusal k a trace rest ≡ rest
-    behind rest = trace_pass k a trace rest (sym e ∙ z)
+  pub early_uneven : 0 ≡ trace_refusal k a trace 0 → (length pages ≡ length numbers → ⊥) → 8 ≡ early_refusal k a trace pages numbers 0
+  unfolding early_refusal
+  early_uneven z u = sym (trace_pass k a trace _ (sym z) ∙ rw (ne_eqb (length pages) (length numbers) u) refl)
 
-    pub early_uneven : (rest : ℕ) → (length pages ≡ length numbers → ⊥) → 8 ≡ early_refusal k a trace pages numbers rest
-    unfolding early_refusal
-    early_uneven rest u = sym (behind _ ∙ rw (ne_eqb (length pages) (length numbers) u) refl)
+  pub early_used : 0 ≡ trace_refusal k a trace 0 → length pages ≡ length numbers → false ≡ all_unused (rows_of numbers pages) → 9 ≡ early_refusal k a trace pages numbers 0
+  unfolding early_refusal
+  early_used z u f = sym (trace_pass k a trace _ (sym z) ∙ rw (eq-eqb (length pages) (length numbers) u, ← f) refl)
 
-    pub early_used : (rest : ℕ) → length pages ≡ length numbers → false ≡ all_unused (rows_of numbers pages)
-        → 9 ≡ early_refusal k a trace pages numbers rest
-    unfolding early_refusal
-    early_used rest u f = sym (behind _ ∙ rw (eq-eqb (length pages) (length numbers) u, ← f) refl)
+  pub early_none : 0 ≡ trace_refusal k a trace 0 → length pages ≡ length numbers → true ≡ all_unused (rows_of numbers pages) → 0 ≡ early_refusal k a trace pages numbers 0
+  unfolding early_refusal
+  early_none z u f = sym (trace_pass k a trace _ (sym z) ∙ rw (eq-eqb (length pages) (length numbers) u, ← f) refl)
 
-    pub early_none : (rest : ℕ) → length pages ≡ length numbers → true ≡ all_unused (rows_of numbers pages)
-        → rest ≡ early_refusal k a trace pages numbers rest
-    unfolding early_refusal
-    early_none rest u f = sym (behind _ ∙ rw (eq-eqb (length pages) (length numbers) u, ← f) refl)
+pub ruleset early_rules = (early_trace, early_uneven, early_used, early_none)

@@ -1,12 +1,16 @@
 -- A request to the layers (document 01, "Layers"): its refusals in order, its answer and both lists afterwards.
-use Rattle.std.specs.Prelude.{ℕ, ◌+◌, not, List, eqb, ltb, length}
+use Rattle.std.specs.Prelude.{ℕ, ◌+◌, not, List, Result, Ok, Err, eqb, ltb, length}
 use Rattle.lists.specs.Choice.{pick}
 use Rattle.lists.specs.Pages.{bit}
 use Rattle.lists.specs.Sorting.{Row}
-use Rattle.paging.specs.Layers.{LayerRule, append, join, lift, is_append, is_join, is_lift, top_after}
+use Rattle.paging.specs.Layers.{LayerRule, is_append, is_join, is_lift, top_after}
+use Rattle.paging.specs.Numbers.{number_of}
 use Rattle.paging.specs.Refusals.{refuse, sizes_refusal, full_counter}
 use Rattle.paging.specs.Rows.{rows_of, numbers_of, pages_of, used_rows, table_of}
 use Rattle.paging.specs.Table.{rule_in, rows_after}
+use Rattle.paging.specs.declared.reasons.Refusal.{Refusal}
+pub use Rattle.table.specs.Serving.{rule_number}
+use Rattle.table.specs.Serving.{rule_of}
 use Rattle.layers.specs.Formed.{layers_well_formed}
 use Rattle.layers.specs.declared.LayersReply.{LayersReply}
 use Rattle.layers.specs.declared.LayersRun.{LayersRun}
@@ -31,12 +35,6 @@ rows_next run p rows = rows_after run.k run.a run.s p (used_rows rows)
 abbrev pub rule_next : LayersRun → (p : ℕ) → List Row → LayerRule
 rule_next run p rows = rule_in run.k run.s p (used_rows rows)
 
--- the number that an accepted request answers (document 02, request 02): 1 for rule 1a, 2 for 1b, 3 for 1c
-abbrev pub rule_number : LayerRule → ℕ
-rule_number append = 1
-rule_number join = 2
-rule_number lift = 3
-
 -- the record after one more request, which led to s and adds so many to the counts of the three rules (request 02). 1b counts one bundle
 abbrev pub run_counted : LayersRun → (s appends joins lifts : ℕ) → LayersRun
 run_counted run s appends joins lifts = record {
@@ -50,8 +48,14 @@ run_counted run s appends joins lifts = record {
   lifts = run.lifts + lifts;
 }
 
+-- what a request answers: the new record and the number of the rule that applied, or a refusal's number beside zeros
+pub record LayersReplyAnswer : Type 0 where
+  pub refusal : ℕ
+  pub run : LayersRun
+  pub answer : ℕ
+
 -- the reply to an accepted request that applied this rule and led to s
-abbrev pub reply_by : LayerRule → (s : ℕ) → LayersRun → LayersReply
+abbrev pub reply_by : LayerRule → (s : ℕ) → LayersRun → LayersReplyAnswer
 reply_by rule s run = record {
   refusal = 0;
   run = run_counted run s (bit (is_append rule)) (bit (is_join rule)) (bit (is_lift rule));
@@ -59,7 +63,7 @@ reply_by rule s run = record {
 }
 
 -- the reply to an accepted request for p
-abbrev pub reply_next : LayersRun → (p : ℕ) → List Row → LayersReply
+abbrev pub reply_next : LayersRun → (p : ℕ) → List Row → LayersReplyAnswer
 reply_next run p rows = reply_by (rule_next run p rows) (top_after (rule_next run p rows) run.k run.a run.s) run
 
 -- the refusals of a request: behind those of the state 12 for the counter, and 10 where the pages after the request are more than the places
@@ -71,13 +75,18 @@ request_refusal run pages numbers p =
     0))
 
 -- a refusal is its number, and zero in every other field
-abbrev pub refused : ℕ → LayersReply
+abbrev pub refused : ℕ → LayersReplyAnswer
 refused number = record { refusal = number; run = empty_run 0 0; answer = 0 }
 
-unfoldable pub request_reply : LayersRun → (pages numbers : List ℕ) → (p : ℕ) → LayersReply
+unfoldable pub request_reply : LayersRun → (pages numbers : List ℕ) → (p : ℕ) → LayersReplyAnswer
 request_reply run pages numbers p =
     let number = request_refusal run pages numbers p in
     pick (eqb number 0) (reply_next run p (rows_of numbers pages)) (refused number)
+
+-- what the code's answer says
+abbrev pub layers_reply_answer : Result LayersReply Refusal → LayersReplyAnswer
+layers_reply_answer (Ok reply) = record { refusal = 0; run = reply.run; answer = rule_number (rule_of reply.rule) }
+layers_reply_answer (Err reason) = refused (number_of reason)
 
 -- the table after an accepted request for p
 abbrev pub table_next : LayersRun → (pages numbers : List ℕ) → (p : ℕ) → List Row

@@ -17,10 +17,7 @@ pub(crate) const NUMBERS: usize = LayersRun::K_MAX as usize + 1;
 fn used_or_zero(n: u32, p: u32) -> bool
     ensures { result ≡ (is_unused (row_at n p) or above_zero (row_at n p)) }
 {
-    if n == 0 {
-        return p == 0;
-    }
-    true
+    n != 0 || p == 0
 }
 
 // The row of m and q may stand right behind that of n and p.
@@ -30,10 +27,7 @@ fn may_follow(n: u32, p: u32, m: u32, q: u32) -> bool
     if m == 0 {
         return q == 0;
     }
-    if n == 0 {
-        return false;
-    }
-    rows::row_before(n, p, m, q)
+    n != 0 && rows::row_before(n, p, m, q)
 }
 
 // Whether the table is ordered.
@@ -41,28 +35,18 @@ fn in_order(pages: &[u32], numbers: &[u32]) -> bool
     requires { length pages.now ≡ length numbers.now }
     ensures { result ≡ ordered (rows_of numbers.now pages.now) }
 {
-    if pages.len() == 0 {
+    if pages.is_empty() {
         return true;
     }
-    if used_or_zero(numbers[0], pages[0]) {
-        let mut i = 1;
-        while i < pages.len() {
-            if may_follow(numbers[i - 1], pages[i - 1], numbers[i], pages[i]) {
-                i += 1;
-            } else {
-                return false;
-            }
+    if !used_or_zero(numbers[0], pages[0]) {
+        return false;
+    }
+    for i in 1..pages.len() {
+        if !may_follow(numbers[i - 1], pages[i - 1], numbers[i], pages[i]) {
+            return false;
         }
-        return true;
     }
-    false
-}
-
-// A number as an index.
-pub(crate) fn wide(n: u32) -> usize
-    ensures { result ≡ n }
-{
-    n as usize
+    true
 }
 
 // How many places have each number.
@@ -70,12 +54,10 @@ pub(crate) fn tally(numbers: &[u32]) -> [usize; NUMBERS]
     ensures { Tallied numbers.now result }
 {
     let mut sizes = [0usize; NUMBERS];
-    let mut i = 0;
-    while i < numbers.len() {
-        let n = wide(numbers[i]);
-        i += 1;
+    for number in numbers {
+        let n = *number as usize;
         if n < NUMBERS {
-            sizes[n] = sizes[n] + 1;
+            sizes[n] += 1;
         }
     }
     sizes
@@ -86,13 +68,8 @@ fn used(numbers: &[u32]) -> usize
     ensures { result ≡ count (λ n. ltb 0 n) numbers.now }
 {
     let mut n = 0;
-    let mut i = 0;
-    while i < numbers.len() {
-        let number = numbers[i];
-        i += 1;
-        if number > 0 {
-            n += 1;
-        }
+    for number in numbers {
+        n += usize::from(*number > 0);
     }
     n
 }
@@ -101,14 +78,7 @@ fn used(numbers: &[u32]) -> usize
 fn none_above(numbers: &[u32], s: u32) -> bool
     ensures { result ≡ eqb (count (λ n. ltb s n) numbers.now) 0 }
 {
-    let mut i = 0;
-    while i < numbers.len() {
-        if numbers[i] > s {
-            return false;
-        }
-        i += 1;
-    }
-    true
+    numbers.iter().all(|n| *n <= s)
 }
 
 // Whether layers 1 to s are all present.
@@ -116,12 +86,10 @@ fn present(sizes: &[usize; NUMBERS], s: usize) -> bool
     requires { (length sizes.now ≡ largest_k + 1) × (s < largest_k + 1) }
     ensures { result ≡ present_in s sizes.now }
 {
-    let mut i = s;
-    while i > 0 {
-        if sizes[i] == 0 {
+    for i in (0..s).rev() {
+        if sizes[i + 1] == 0 {
             return false;
         }
-        i -= 1;
     }
     true
 }
@@ -131,12 +99,10 @@ fn single_above(sizes: &[usize; NUMBERS], limit: usize, s: usize) -> bool
     requires { (length sizes.now ≡ largest_k + 1) × (s < largest_k + 1) }
     ensures { result ≡ single_in limit s sizes.now }
 {
-    let mut i = s;
-    while i > limit {
-        if sizes[i] > 1 {
+    for i in (limit..s).rev() {
+        if sizes[i + 1] > 1 {
             return false;
         }
-        i -= 1;
     }
     true
 }
@@ -146,19 +112,12 @@ fn layers_sized(run: LayersRun, numbers: &[u32]) -> bool
     requires { (run.a ≤ run.k) × (run.k ≤ largest_k) × (run.s ≤ run.k) }
     ensures { result ≡ sizes_formed run (numbered numbers.now) }
 {
-    let limit = wide(run.k - run.a);
-    let s = wide(run.s);
+    let limit = (run.k - run.a) as usize;
+    let s = run.s as usize;
     let sizes = tally(numbers);
-    if present(&sizes, s) {} else {
-        return false;
-    }
-    if single_above(&sizes, limit, s) {} else {
-        return false;
-    }
-    if limit < s {
-        return true;
-    }
-    single_above(&sizes, 0, s)
+    present(&sizes, s)
+        && single_above(&sizes, limit, s)
+        && (limit < s || single_above(&sizes, 0, s))
 }
 
 // Whether the record and the table are as document 01 asks, for sizes that were judged.
@@ -166,34 +125,19 @@ fn table_formed(run: LayersRun, pages: &[u32], numbers: &[u32]) -> bool
     requires { (length pages.now ≡ length numbers.now) × (run.a ≤ run.k) × (run.k ≤ largest_k) }
     ensures { result ≡ table_formed run (rows_of numbers.now pages.now) }
 {
-    if run.evictions > run.requests {
-        return false;
-    }
-    if run.s > run.k {
-        return false;
-    }
-    if in_order(pages, numbers) {} else {
+    if run.evictions > run.requests || run.s > run.k || !in_order(pages, numbers) {
         return false;
     }
     let n = used(numbers);
-    if repeats::no_page_twice(&pages[..n]) {} else {
-        return false;
-    }
-    if none_above(numbers, run.s) {} else {
-        return false;
-    }
-    layers_sized(run, numbers)
+    repeats::no_page_twice(&pages[..n]) && none_above(numbers, run.s) && layers_sized(run, numbers)
 }
 
 // Whether the three counts add up to the requests, and the joins are the bundles. The counts are any numbers of 32 bits, so the sum has 64.
 fn counts_formed(run: LayersRun) -> bool
     ensures { result ≡ counts_formed run }
 {
-    let sum = run.appends as u64 + run.joins as u64 + run.lifts as u64;
-    if sum == run.requests as u64 {
-        return run.joins == run.evictions;
-    }
-    false
+    let sum = u64::from(run.appends) + u64::from(run.joins) + u64::from(run.lifts);
+    sum == u64::from(run.requests) && run.joins == run.evictions
 }
 
 // Whether the record and the table are well formed, for sizes that were judged. The counts take a few steps only, so they come first.
@@ -201,8 +145,5 @@ pub(crate) fn well_formed(run: LayersRun, pages: &[u32], numbers: &[u32]) -> boo
     requires { (length pages.now ≡ length numbers.now) × (run.a ≤ run.k) × (run.k ≤ largest_k) }
     ensures { result ≡ layers_well_formed run (rows_of numbers.now pages.now) }
 {
-    if counts_formed(run) {
-        return table_formed(run, pages, numbers);
-    }
-    false
+    counts_formed(run) && table_formed(run, pages, numbers)
 }

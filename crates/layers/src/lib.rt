@@ -2,14 +2,15 @@
 // table of two lists, with the questions on them, and over a whole trace. The definitions are in specs/.
 #![tactic(auto)]
 
-ghost use Rattle.std.specs.Prelude.{◌≤◌, ◌≡◌};
+ghost use Rattle.std.specs.Prelude.{◌≡◌};
+ghost use Rattle.paging.specs.Numbers.{refusal_of};
 ghost use Rattle.table.specs.Serving.{rule_of};
-ghost use Rattle.layers.specs.Calls.{empty_run, state_refusal, run_counted, reply_by, request_reply, pages_next, numbers_next, refused};
+ghost use Rattle.layers.specs.Calls.{empty_run, state_refusal, reply_by, layers_reply_answer, request_reply, pages_next, numbers_next};
 ghost use Rattle.layers.specs.Questions.{RevealedTold, verdict_of, verdict};
-ghost use Rattle.layers.specs.Traces.{refused_totals, trace_totals, pages_over, numbers_over};
+ghost use Rattle.layers.specs.Traces.{layers_totals_answer, trace_totals, pages_over, numbers_over};
 ghost use Rattle.layers.specs.inner.Counting.{CountersFit};
 
-use paging::Sizes;
+use paging::{Refusal, Sizes};
 use table::RuleApplied;
 
 mod formed;
@@ -52,177 +53,116 @@ impl LayersRun {
             lifts: 0,
         }
     }
+
+    // The record after one more request, which applied the rule and led to s. A join is a bundle.
+    pub fn counted(self, rule: RuleApplied, s: u32) -> LayersRun
+        requires { CountersFit self }
+        ensures { result ≡ (reply_by (rule_of rule) s self).run }
+    {
+        let (appends, joins, lifts) = match rule {
+            RuleApplied::Append => (1, 0, 0),
+            RuleApplied::Join => (0, 1, 0),
+            RuleApplied::Lift => (0, 0, 1),
+        };
+        LayersRun {
+            requests: self.requests + 1,
+            evictions: self.evictions + joins,
+            s,
+            appends: self.appends + appends,
+            joins: self.joins + joins,
+            lifts: self.lifts + lifts,
+            ..self
+        }
+    }
 }
 
-// A request's answer: the new record and the rule that applied, 1 for 1a, 2 for 1b, 3 for 1c; or a refusal's number beside zeros.
+// An accepted request's answer: the new record and the rule that applied.
 #[derive(Clone, Copy)]
 pub struct LayersReply {
-    pub refusal: u32,
     pub run: LayersRun,
-    pub answer: u32,
-}
-
-// How many pages are revealed, or a refusal's number beside zero.
-#[derive(Clone, Copy)]
-pub struct RevealedReply {
-    pub refusal: u32,
-    pub count: u32,
+    pub rule: RuleApplied,
 }
 
 // Whether a set is possible.
-#[derive(Clone, Copy)]
+#[derive(Clone, Copy, Debug, PartialEq, Eq)]
 pub enum PossibleAnswer {
     Yes,
     CountDiffers,
     // The smallest layer i such that more than i pages of the set are in L0 to Li.
     BrokenAt(u32),
-    Refused(u32),
 }
 
-// The layers over a whole trace: bundles, s and revealed pages, or a refusal's number beside zeros.
+// The layers over a whole trace: bundles, s and revealed pages.
 #[derive(Clone, Copy)]
 pub struct LayersTotals {
-    pub refusal: u32,
     pub bundles: u32,
     pub s: u32,
     pub revealed: u32,
 }
 
-// The refusals of every call on a record and a table: 1, 2, 8, 9, or 0 for none.
-fn state_refusal(run: LayersRun, pages: &[u32], numbers: &[u32]) -> u32
-    ensures { result ≡ state_refusal run pages.now numbers.now 0 }
+// The refusals of every call on a record and a table, in order: 1, 2, 8, 9.
+#[tactic(auto, using(crate::proofs::Refusing::state_rules))]
+fn check_state(run: LayersRun, pages: &[u32], numbers: &[u32]) -> Result<(), Refusal>
+    ensures { refusal_of result ≡ state_refusal run pages.now numbers.now 0 }
 {
-    let sizes = Sizes { k: run.k, a: run.a };
-    let no = sizes.refusal();
-    if no != 0 {
-        return no;
-    }
+    Sizes { k: run.k, a: run.a }.check()?;
     if pages.len() != numbers.len() {
-        return 8;
+        return Err(Refusal::TooLittleRoom);
     }
-    if formed::well_formed(run, pages, numbers) {
-        return 0;
+    if !formed::well_formed(run, pages, numbers) {
+        return Err(Refusal::IllFormed);
     }
-    9
-}
-
-fn refused(number: u32) -> LayersReply
-    ensures { result ≡ refused number }
-{
-    LayersReply {
-        refusal: number,
-        run: LayersRun::empty(0, 0),
-        answer: 0,
-    }
-}
-
-// The record after one more request, with s after it and what it adds to the three counts. A join is a bundle.
-fn counted(run: LayersRun, s: u32, appends: u32, joins: u32, lifts: u32) -> LayersRun
-    requires { CountersFit run × (appends ≤ 1) × (joins ≤ 1) × (lifts ≤ 1) }
-    ensures { result ≡ run_counted run s appends joins lifts }
-{
-    LayersRun {
-        k: run.k,
-        a: run.a,
-        requests: run.requests + 1,
-        evictions: run.evictions + joins,
-        s,
-        appends: run.appends + appends,
-        joins: run.joins + joins,
-        lifts: run.lifts + lifts,
-    }
-}
-
-// What an accepted request answers.
-fn answered(rule: RuleApplied, s: u32, run: LayersRun) -> LayersReply
-    requires { CountersFit run }
-    ensures { result ≡ reply_by (rule_of rule) s run }
-{
-    match rule {
-        RuleApplied::Append => LayersReply {
-            refusal: 0,
-            run: counted(run, s, 1, 0, 0),
-            answer: 1,
-        },
-        RuleApplied::Join => LayersReply {
-            refusal: 0,
-            run: counted(run, s, 0, 1, 0),
-            answer: 2,
-        },
-        RuleApplied::Lift => LayersReply {
-            refusal: 0,
-            run: counted(run, s, 0, 0, 1),
-            answer: 3,
-        },
-    }
+    Ok(())
 }
 
 // A request for a page. A refusal leaves both lists as they are.
-pub fn request(run: LayersRun, pages: &mut [u32], numbers: &mut [u32], page: u32) -> LayersReply
-    ensures { (result ≡ request_reply run pages.old numbers.old page)
+pub fn request(
+    run: LayersRun,
+    pages: &mut [u32],
+    numbers: &mut [u32],
+    page: u32,
+) -> Result<LayersReply, Refusal>
+    ensures { (layers_reply_answer result ≡ request_reply run pages.old numbers.old page)
         × (pages.new ≡ pages_next run pages.old numbers.old page)
         × (numbers.new ≡ numbers_next run pages.old numbers.old page) }
 {
-    let no = state_refusal(run, pages, numbers);
-    if no != 0 {
-        return refused(no);
-    }
+    check_state(run, pages, numbers)?;
     if run.requests == LayersRun::COUNTER_MAX {
-        return refused(12);
+        return Err(Refusal::CounterFull);
     }
-    let stepped = table::step(run.k, run.a, run.s, page, pages, numbers);
-    if stepped.full {
-        return refused(10);
-    }
-    let rule = stepped.rule;
-    answered(rule, stepped.s, run)
+    let stepped = table::step(run.k, run.a, run.s, page, pages, numbers).ok_or(Refusal::TableFull)?;
+    Ok(LayersReply {
+        run: run.counted(stepped.rule, stepped.s),
+        rule: stepped.rule,
+    })
 }
 
 // How many pages are revealed: they are the last so many used places.
-pub fn revealed(run: LayersRun, pages: &[u32], numbers: &[u32]) -> RevealedReply
+pub fn revealed(run: LayersRun, pages: &[u32], numbers: &[u32]) -> Result<u32, Refusal>
     ensures { RevealedTold run pages.now numbers.now result }
 {
-    let no = state_refusal(run, pages, numbers);
-    if no != 0 {
-        return RevealedReply {
-            refusal: no,
-            count: 0,
-        };
-    }
-    RevealedReply {
-        refusal: 0,
-        count: questions::singles_at_top(numbers, run.s),
-    }
+    check_state(run, pages, numbers)?;
+    Ok(questions::singles_at_top(numbers, run.s))
 }
 
 // Whether a set is possible. The count is looked at first, then the layers from L0 up: a "no" names the first at which the rule breaks.
-pub fn possible(run: LayersRun, pages: &[u32], numbers: &[u32], set: &[u32]) -> PossibleAnswer
+pub fn possible(
+    run: LayersRun,
+    pages: &[u32],
+    numbers: &[u32],
+    set: &[u32],
+) -> Result<PossibleAnswer, Refusal>
     ensures { verdict_of result ≡ verdict run pages.now numbers.now set.now }
 {
-    let no = state_refusal(run, pages, numbers);
-    if no != 0 {
-        return PossibleAnswer::Refused(no);
+    check_state(run, pages, numbers)?;
+    if !repeats::no_page_twice(set) {
+        return Err(Refusal::PageTwice);
     }
-    if repeats::no_page_twice(set) {} else {
-        return PossibleAnswer::Refused(11);
-    }
-    if set.len() != formed::wide(run.s) {
-        return PossibleAnswer::CountDiffers;
+    if set.len() != run.s as usize {
+        return Ok(PossibleAnswer::CountDiffers);
     }
     let sizes = questions::tally_set(pages, numbers, set);
-    questions::first_broken(&sizes, run.s)
-}
-
-// A refusal of a whole trace.
-fn refused_totals(number: u32) -> LayersTotals
-    ensures { result ≡ refused_totals number }
-{
-    LayersTotals {
-        refusal: number,
-        bundles: 0,
-        s: 0,
-        revealed: 0,
-    }
+    Ok(questions::first_broken(&sizes, run.s))
 }
 
 // The layers over a whole trace, into a table that is all unused. No request is checked: the state is proved to stay well formed.
@@ -232,25 +172,20 @@ pub fn over_trace(
     trace: &[u32],
     pages: &mut [u32],
     numbers: &mut [u32],
-) -> LayersTotals
-    ensures { (result ≡ trace_totals k a trace.now pages.old numbers.old)
+) -> Result<LayersTotals, Refusal>
+    ensures { (layers_totals_answer result ≡ trace_totals k a trace.now pages.old numbers.old)
         × (pages.new ≡ pages_over k a trace.now pages.old numbers.old)
         × (numbers.new ≡ numbers_over k a trace.now pages.old numbers.old) }
 {
-    let no = trace::early_refusal(k, a, trace, pages, numbers);
-    if no != 0 {
-        return refused_totals(no);
-    }
-    let served = trace::serve_all(k, a, trace, pages, numbers);
-    if served.full {
-        trace::clear(pages, numbers);
-        return refused_totals(10);
-    }
-    let s = served.s;
-    LayersTotals {
-        refusal: 0,
+    trace::check(k, a, trace, pages, numbers)?;
+    let Some(served) = trace::serve_all(k, a, trace, pages, numbers) else {
+        pages.fill(0);
+        numbers.fill(0);
+        return Err(Refusal::TableFull);
+    };
+    Ok(LayersTotals {
         bundles: served.joins,
-        s,
-        revealed: questions::singles_at_top(numbers, s),
-    }
+        s: served.s,
+        revealed: questions::singles_at_top(numbers, served.s),
+    })
 }

@@ -15,14 +15,12 @@ pub(crate) fn singles_at_top(numbers: &[u32], s: u32) -> u32
     ensures { result ≡ revealed s (numbered numbers.now) }
 {
     let sizes = formed::tally(numbers);
-    let mut i = formed::wide(s);
-    let mut n: u32 = 0;
-    while i > 0 {
-        if sizes[i] != 1 {
+    let mut n = 0;
+    for i in (0..s as usize).rev() {
+        if sizes[i + 1] != 1 {
             return n;
         }
         n += 1;
-        i -= 1;
     }
     n
 }
@@ -33,12 +31,10 @@ pub(crate) fn tally_set(pages: &[u32], numbers: &[u32], set: &[u32]) -> [usize; 
     ensures { Tallied (map (number_in (rows_of numbers.now pages.now)) set.now) result }
 {
     let mut sizes = [0usize; NUMBERS];
-    let mut i = 0;
-    while i < set.len() {
-        let n = formed::wide(table::number_in(pages, numbers, set[i]));
-        i += 1;
+    for page in set {
+        let n = table::number_in(pages, numbers, *page) as usize;
         if n < NUMBERS {
-            sizes[n] = sizes[n] + 1;
+            sizes[n] += 1;
         }
     }
     sizes
@@ -50,14 +46,12 @@ pub(crate) fn first_broken(sizes: &[usize; NUMBERS], s: u32) -> PossibleAnswer
     ensures { Walked s sizes.now result }
 {
     let mut total = 0;
-    let mut i: u32 = 0;
-    while i <= s {
-        let at = formed::wide(i);
+    for i in 0..s + 1 {
+        let at = i as usize;
         total += sizes[at];
         if total > at {
             return PossibleAnswer::BrokenAt(i);
         }
-        i += 1;
     }
     PossibleAnswer::Yes
 }

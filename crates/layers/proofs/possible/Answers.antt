@@ -1,80 +1,48 @@
 use native.Mathlib.Omega.{arith}
-use mathlib.Core.Path.{sym, ◌∙◌}
+use mathlib.Core.Path.{◌≡◌, sym, ap, ◌∙◌}
+use Rattle.std.specs.Prelude.{Err}
+use Rattle.std.proofs.lemmas.Result.{err_from_is_err_and}
+use Rattle.paging.specs.Numbers.{number_of}
 use Rattle.paging.specs.Rows.{rows_of}
 use Rattle.paging.specs.Table.{number_in}
 use Rattle.layers.proofs.Asking.{possible_refused, possible_twice, possible_differs, possible_walked, tally_most, s_most}
-use Rattle.layers.proofs.Refusing.{state_ready}
+use Rattle.layers.proofs.Refusing.{number_above, state_ready}
 use Rattle.layers.proofs.possible.Goals as goal
 
-pub returns-then-no-ne0 : goal.returns-then-no-ne0
-returns-then-no-ne0 c =
-    let numbers = c.args.numbers.now in
-    let pages = c.args.pages.now in
-    let run = c.args.run in
-    let set = c.args.set.now in
-    let state-refusal = c.state_refusal-no in
-    possible_refused run pages numbers set state-refusal.result state-refusal.ensures c.if-no-ne0.true
+pub returns-in_err-check_state : goal.returns-in_err-check_state
+returns-in_err-check_state c =
+    let args = c.args in
+    let r = err_from_is_err_and c.from_residual.result c.from_residual.ensures.1 in
+    let reason = c.in_err-check_state.field-0.0 in
+    let e : c.from_residual.result ≡ Err reason = r.1 ∙ ap Err r.2 in
+    rw e (possible_refused args.run args.pages.now args.numbers.now args.set.now (number_of reason) c.in_err-check_state.ensures (number_above reason))
 
-pub returns-else-no_page_twice : goal.returns-else-no_page_twice
-returns-else-no_page_twice c =
-    let numbers = c.args.numbers.now in
-    let pages = c.args.pages.now in
-    let run = c.args.run in
-    let set = c.args.set.now in
-    let state-refusal = c.state_refusal-no in
-    let if1 = c.if-no-ne0 in
-    possible_twice run pages numbers set
-    (state_ready run pages numbers (sym state-refusal.ensures ∙ if1.false)) (sym c.no_page_twice.ensures ∙ c.if-no_page_twice.false)
+pub returns-then-not-no_page_twice : goal.returns-then-not-no_page_twice
+returns-then-not-no_page_twice c =
+    let args = c.args in
+    possible_twice args.run args.pages.now args.numbers.now args.set.now
+    (state_ready args.run args.pages.now args.numbers.now (sym c.in_ok-check_state.ensures)) (sym c.no_page_twice.ensures ∙ c.if-not-no_page_twice.true)
 
-pub returns-then-set-wide : goal.returns-then-set-wide
-returns-then-set-wide c =
-    let numbers = c.args.numbers.now in
-    let pages = c.args.pages.now in
-    let run = c.args.run in
-    let set = c.args.set.now in
-    let state-refusal = c.state_refusal-no in
-    let if1 = c.if-no-ne0 in
-    let no-page-twice = c.no_page_twice in
-    let if2 = c.if-no_page_twice in
-    possible_differs run pages numbers set
-    (state_ready run pages numbers (sym state-refusal.ensures ∙ if1.false)) (sym no-page-twice.ensures ∙ if2.true)
-    (λ e. c.if-set-wide.true (e ∙ sym c.wide.ensures))
+pub returns-then-set-run : goal.returns-then-set-run
+returns-then-set-run c =
+    let args = c.args in
+    possible_differs args.run args.pages.now args.numbers.now args.set.now
+    (state_ready args.run args.pages.now args.numbers.now (sym c.in_ok-check_state.ensures)) (sym c.no_page_twice.ensures ∙ c.if-not-no_page_twice.false)
+    c.if-set-run.true
 
 pub tally_set-sizes-requires : goal.tally_set-sizes-requires
-tally_set-sizes-requires c =
-    let numbers = c.args.numbers.now in
-    let pages = c.args.pages.now in
-    let run = c.args.run in
-    let state-refusal = c.state_refusal-no in
-    let if1 = c.if-no-ne0 in
-    (state_ready run pages numbers (sym state-refusal.ensures ∙ if1.false)).even
+tally_set-sizes-requires c = (state_ready c.args.run c.args.pages.now c.args.numbers.now (sym c.in_ok-check_state.ensures)).even
 
 pub first_broken-requires : goal.first_broken-requires
 first_broken-requires c =
-    let numbers = c.args.numbers.now in
-    let pages = c.args.pages.now in
-    let run = c.args.run in
-    let set = c.args.set.now in
-    let state-refusal = c.state_refusal-no in
-    let if1 = c.if-no-ne0 in
-    let tally-set = c.tally_set-sizes in
-    let r = state_ready run pages numbers (sym state-refusal.ensures ∙ if1.false) in
-    let m = s_most run pages numbers r in
-    (tally-set.ensures.long, m, tally_most (number_in (rows_of numbers pages)) set tally-set.result 256 tally-set.ensures (omega arith))
+    let args = c.args in
+    let tallied = c.tally_set-sizes in
+    let m = s_most args.run args.pages.now args.numbers.now (state_ready args.run args.pages.now args.numbers.now (sym c.in_ok-check_state.ensures)) in
+    (tallied.ensures.long, m, tally_most (number_in (rows_of args.numbers.now args.pages.now)) args.set.now tallied.result 256 tallied.ensures (omega arith))
 
 pub returns : goal.returns
 returns c =
-    let numbers = c.args.numbers.now in
-    let pages = c.args.pages.now in
-    let run = c.args.run in
-    let set = c.args.set.now in
-    let state-refusal = c.state_refusal-no in
-    let if1 = c.if-no-ne0 in
-    let no-page-twice = c.no_page_twice in
-    let if2 = c.if-no_page_twice in
-    let wide = c.wide in
-    let if3 = c.if-set-wide in
-    let tally-set = c.tally_set-sizes in
-    let r = state_ready run pages numbers (sym state-refusal.ensures ∙ if1.false) in
-    possible_walked run pages numbers set r (sym no-page-twice.ensures ∙ if2.true)
-    tally-set.result c.first_broken.result (if3.false ∙ wide.ensures) (s_most run pages numbers r) tally-set.ensures c.first_broken.ensures
+    let args = c.args in
+    let r = state_ready args.run args.pages.now args.numbers.now (sym c.in_ok-check_state.ensures) in
+    possible_walked args.run args.pages.now args.numbers.now args.set.now r (sym c.no_page_twice.ensures ∙ c.if-not-no_page_twice.false)
+    c.tally_set-sizes.result c.first_broken.result c.if-set-run.false (s_most args.run args.pages.now args.numbers.now r) c.tally_set-sizes.ensures c.first_broken.ensures

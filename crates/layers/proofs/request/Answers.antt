@@ -1,91 +1,63 @@
 use native.Mathlib.Omega.{arith}
-use mathlib.Core.Path.{sym, ◌∙◌, refl}
-use Rattle.layers.proofs.Refusing.{state_ready, sound, counters_fit, request_refused, request_state, request_last, request_full, rows_kept, request_served, pages_same, numbers_same}
+use mathlib.Core.Path.{◌≡◌, sym, ap, ◌∙◌}
+use Rattle.std.specs.Prelude.{Err}
+use Rattle.std.proofs.lemmas.Result.{err_from_is_err_and}
+use Rattle.paging.specs.Numbers.{number_of}
+use Rattle.paging.specs.declared.reasons.Refusal.TheVariants.{TableFull}
+use Rattle.layers.proofs.Refusing.{number_above, state_ready, sound, counters_fit, request_refused, request_state, request_last, request_full, request_served, pages_same, numbers_same}
 use Rattle.layers.proofs.request.Goals as goal
 
-pub returns-then-no-ne0 : goal.returns-then-no-ne0
-returns-then-no-ne0 c =
-    let numbers = c.args.numbers.now in
-    let page = c.args.page in
-    let pages = c.args.pages.now in
-    let run = c.args.run in
-    let state-refusal = c.state_refusal-no in
-    let if1 = c.if-no-ne0 in
-    let t = request_refused run pages numbers page state-refusal.result
-    (request_state run pages numbers page state-refusal.result state-refusal.ensures if1.true) if1.true in
-    (c.refused.ensures ∙ t.0, t.1, t.2)
+pub returns-in_err-check_state : goal.returns-in_err-check_state
+returns-in_err-check_state c =
+    let args = c.args in
+    let r = err_from_is_err_and c.from_residual.result c.from_residual.ensures.1 in
+    let reason = c.in_err-check_state.field-0.0 in
+    let e : c.from_residual.result ≡ Err reason = r.1 ∙ ap Err r.2 in
+    let t = request_refused args.run args.pages.now args.numbers.now args.page (number_of reason)
+    (request_state args.run args.pages.now args.numbers.now args.page (number_of reason) c.in_err-check_state.ensures (number_above reason)) (number_above reason) in
+    (rw e t.0, t.1, t.2)
 
 pub returns-then-run-eq-COUNTER_MAX : goal.returns-then-run-eq-COUNTER_MAX
 returns-then-run-eq-COUNTER_MAX c =
-    let numbers = c.args.numbers.now in
-    let page = c.args.page in
-    let pages = c.args.pages.now in
-    let run = c.args.run in
-    let state-refusal = c.state_refusal-no in
-    let if1 = c.if-no-ne0 in
-    let z = sym state-refusal.ensures ∙ if1.false in
-    let t = request_refused run pages numbers page 12
-    (request_last run pages numbers page z c.if-run-eq-COUNTER_MAX.true) (λ e. omega arith) in
-    (c.refused-then-run-eq-COUNTER_MAX.ensures ∙ t.0, t.1, t.2)
+    let args = c.args in
+    request_refused args.run args.pages.now args.numbers.now args.page 12
+    (request_last args.run args.pages.now args.numbers.now args.page (sym c.in_ok-check_state.ensures) c.if-run-eq-COUNTER_MAX.true) (λ e. omega arith)
 
-pub step-stepped-requires : goal.step-stepped-requires
-step-stepped-requires c =
-    let numbers = c.args.numbers.now in
-    let pages = c.args.pages.now in
-    let run = c.args.run in
-    let state-refusal = c.state_refusal-no in
-    let if1 = c.if-no-ne0 in
-    let z = sym state-refusal.ensures ∙ if1.false in
-    let r = state_ready run pages numbers z in
-    (r.even, sound run pages numbers r)
+pub step-requires : goal.step-requires
+step-requires c =
+    let args = c.args in
+    let r = state_ready args.run args.pages.now args.numbers.now (sym c.in_ok-check_state.ensures) in
+    (r.even, sound args.run args.pages.now args.numbers.now r)
 
-pub returns-then-stepped : goal.returns-then-stepped
-returns-then-stepped c =
-    let numbers = c.args.numbers.now in
-    let page = c.args.page in
-    let pages = c.args.pages.now in
-    let run = c.args.run in
-    let state-refusal = c.state_refusal-no in
-    let if1 = c.if-no-ne0 in
-    let if2 = c.if-run-eq-COUNTER_MAX in
-    let step = c.step-stepped in
-    let if3 = c.if-stepped in
-    let z = sym state-refusal.ensures ∙ if1.false in
-    let r = state_ready run pages numbers z in
-    let l = r.even in
-    let t = request_refused run pages numbers page 10
-    (request_full run pages numbers page z if2.false _ _ step.ensures if3.true) (λ e. omega arith) in
-    let k = rows_kept run pages numbers page z if2.false _ _ step.ensures if3.true in (
-      c.refused-then-stepped.ensures ∙ t.0,
-      pages_same numbers pages step.new.numbers step.new.pages l (omega arith) k ∙ t.1,
-      numbers_same numbers pages step.new.numbers step.new.pages l (omega arith) k ∙ t.2,
+pub returns-in_err-stepped : goal.returns-in_err-stepped
+returns-in_err-stepped c =
+    let args = c.args in
+    let step = c.step in
+    let r = err_from_is_err_and c.from_residual-in_err-stepped.result c.from_residual-in_err-stepped.ensures.1 in
+    let none = c.in_err-stepped.ensures.ok_part in
+    let told = rw none at c.in_err-stepped.ensures.value in
+    let reason : c.in_err-stepped.field-0.0 ≡ TableFull = cc in
+    let e : c.from_residual-in_err-stepped.result ≡ Err TableFull = r.1 ∙ ap Err (r.2 ∙ reason) in
+    let z = sym c.in_ok-check_state.ensures in
+    let even = (state_ready args.run args.pages.now args.numbers.now z).even in
+    let full = request_full args.run args.pages.now args.numbers.now args.page z c.if-run-eq-COUNTER_MAX.false _ (rw none at step.ensures) in
+    let t = request_refused args.run args.pages.now args.numbers.now args.page 10 full.0 (λ e. omega arith) in (
+      rw e t.0,
+      pages_same args.numbers.now args.pages.now step.new.numbers step.new.pages even (omega arith) full.1 ∙ t.1,
+      numbers_same args.numbers.now args.pages.now step.new.numbers step.new.pages even (omega arith) full.1 ∙ t.2,
     )
 
-pub answered-requires : goal.answered-requires
-answered-requires c =
-    let numbers = c.args.numbers.now in
-    let pages = c.args.pages.now in
-    let run = c.args.run in
-    let state-refusal = c.state_refusal-no in
-    let if1 = c.if-no-ne0 in
-    let if2 = c.if-run-eq-COUNTER_MAX in
-    let more = if2.false in
-    let z = sym state-refusal.ensures ∙ if1.false in
-    counters_fit run pages numbers (state_ready run pages numbers z) (omega (arith, more))
+pub counted-requires : goal.counted-requires
+counted-requires c =
+    let args = c.args in
+    let more = c.if-run-eq-COUNTER_MAX.false in
+    counters_fit args.run args.pages.now args.numbers.now (state_ready args.run args.pages.now args.numbers.now (sym c.in_ok-check_state.ensures)) (omega (arith, more))
 
 pub returns : goal.returns
 returns c =
-    let numbers = c.args.numbers.now in
-    let page = c.args.page in
-    let pages = c.args.pages.now in
-    let run = c.args.run in
-    let state-refusal = c.state_refusal-no in
-    let if1 = c.if-no-ne0 in
-    let if2 = c.if-run-eq-COUNTER_MAX in
-    let step = c.step-stepped in
-    let if3 = c.if-stepped in
-    let z = sym state-refusal.ensures ∙ if1.false in
-    let r = state_ready run pages numbers z in
-    let t = request_served run pages numbers page z if2.false step.result _ step.ensures
-    step.new.pages step.new.numbers if3.false refl (omega arith) in
-    (c.answered.ensures ∙ t.0, t.1, t.2)
+    let args = c.args in
+    let step = c.step in
+    let z = sym c.in_ok-check_state.ensures in
+    let even = (state_ready args.run args.pages.now args.numbers.now z).even in
+    let t = request_served args.run args.pages.now args.numbers.now args.page z c.if-run-eq-COUNTER_MAX.false _ step.new.pages step.new.numbers (rw c.in_ok-stepped.ensures.ok_part at step.ensures) (omega arith) in
+    (rw c.counted.ensures t.0, t.1, t.2)

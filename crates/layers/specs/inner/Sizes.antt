@@ -8,7 +8,7 @@ use Rattle.paging.specs.Rows.{row_at}
 use Rattle.layers.specs.Formed.{present, single_above}
 use Rattle.layers.specs.declared.LayersRun.{LayersRun}
 use Rattle.layers.specs.declared.PossibleAnswer.{PossibleAnswer}
-use Rattle.layers.specs.declared.PossibleAnswer.TheVariants.{Yes, CountDiffers, BrokenAt, Refused}
+use Rattle.layers.specs.declared.PossibleAnswer.TheVariants.{Yes, CountDiffers, BrokenAt}
 
 -- how many entries of the list are i
 abbrev pub times_in : (i : ℕ) → List ℕ → ℕ
@@ -49,4 +49,3 @@ abbrev pub Walked : (s : ℕ) → (sizes : List ℕ) → PossibleAnswer → Type
 Walked s sizes Yes = (j : ℕ) → j ≤ s → sum_below (suc j) sizes ≤ j
 Walked s sizes (BrokenAt i) = (i ≤ s) × (i < sum_below (suc i) sizes) × ((j : ℕ) → j < i → sum_below (suc j) sizes ≤ j)
 Walked s sizes CountDiffers = ⊥
-Walked s sizes (Refused number) = ⊥

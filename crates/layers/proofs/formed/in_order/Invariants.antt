@@ -1,14 +1,10 @@
-use Prim.Native.Nat.{◌≤◌, ◌-◌}
+use Prim.Native.Nat.{◌-◌}
 use mathlib.Core.Path.{◌≡◌}
-use lib.ListN.{length, drop, get_or}
+use lib.ListN.{drop, get_or}
 use Rattle.paging.specs.Rows.{row_at, rows_of}
 use Rattle.layers.specs.Formed.{ordered, ordered_behind}
 use Rattle.layers.proofs.formed.in_order.Given as goal
 
 abbrev pub invariant-loop-i : goal.invariant-loop-i
 invariant-loop-i l =
-    (1 ≤ l.i) × (l.i ≤ length l.pages)
-    × (ordered (rows_of l.numbers l.pages) ≡ ordered_behind (row_at (get_or l.numbers (l.i - 1) 0) (get_or l.pages (l.i - 1) 0)) (drop l.i (rows_of l.numbers l.pages)))
-
-abbrev pub decreases-loop-i : goal.decreases-loop-i
-decreases-loop-i l = length l.pages - l.i
+    ordered (rows_of l.numbers l.pages) ≡ ordered_behind (row_at (get_or l.numbers (l.i - 1) 0) (get_or l.pages (l.i - 1) 0)) (drop l.i (rows_of l.numbers l.pages))

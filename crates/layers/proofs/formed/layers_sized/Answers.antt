@@ -1,66 +1,56 @@
 use native.Mathlib.Omega.{arith}
+use mathlib.Core.Path.{refl, sym, ◌∙◌}
+use borrow.Author.Tests.{lt-ltb}
+use Rattle.lists.proofs.Choice.{clash}
 use Rattle.layers.proofs.WellFormed.{sized_first, sized_second, sized_third, sized_last}
 use Rattle.layers.proofs.formed.layers_sized.Goals as goal
+use Rattle.layers.proofs.formed.layers_sized.Goals.{then-present, else-present}
 
 pub present-requires : goal.present-requires
 present-requires c = let l = c.tally-sizes.ensures.long in (l, omega arith)
 
-pub returns-else-present : goal.returns-else-present
-returns-else-present c =
-    let numbers = c.args.numbers.now in
-    let run = c.args.run in
-    let wide = c.wide-limit in
-    let wide2 = c.wide-s in
-    let tally = c.tally-sizes in
-    sized_first run numbers tally.result tally.ensures wide.result wide2.result wide.ensures wide2.ensures (omega arith) _ c.present.ensures
-    c.if-present.false
-
 pub single_above-requires : goal.single_above-requires
-single_above-requires c =
-    let tally = c.tally-sizes in
-    let l = tally.ensures.long in (l, omega arith)
+single_above-requires c = let l = c.tally-sizes.ensures.long in (l, omega arith)
+
+pub single_above-requires-else-limit-s : goal.single_above-requires-else-limit-s
+single_above-requires-else-limit-s c = let l = c.tally-sizes.ensures.long in (l, omega arith)
 
 pub returns-else-single_above : goal.returns-else-single_above
 returns-else-single_above c =
-    let numbers = c.args.numbers.now in
     let run = c.args.run in
-    let wide = c.wide-limit in
-    let wide2 = c.wide-s in
-    let tally = c.tally-sizes in
-    let present = c.present in
-    let if1 = c.if-present in
-    sized_second run numbers tally.result tally.ensures wide.result wide2.result wide.ensures wide2.ensures (omega arith) _ present.ensures
-    if1.true _ c.single_above.ensures c.if-single_above.false
+    let numbers = c.args.numbers.now in
+    let sizes = c.tally-sizes in
+    elim c.if-present.branch [
+      | then-present w ↦
+          c.if-single_above.false
+          ∙ sized_second run numbers sizes.result sizes.ensures _ _ refl refl (omega arith) _ c.present.ensures w.if-present.true _ w.single_above.ensures
+          (sym w.value-is ∙ c.if-single_above.false)
+      | else-present w ↦
+          c.if-single_above.false
+          ∙ sized_first run numbers sizes.result sizes.ensures _ _ refl refl (omega arith) _ c.present.ensures w.if-present.false
+    ]
 
 pub returns-then-limit-s : goal.returns-then-limit-s
 returns-then-limit-s c =
-    let numbers = c.args.numbers.now in
     let run = c.args.run in
-    let wide = c.wide-limit in
-    let wide2 = c.wide-s in
-    let tally = c.tally-sizes in
-    let present = c.present in
-    let if1 = c.if-present in
-    let single-above = c.single_above in
-    sized_third run numbers tally.result tally.ensures wide.result wide2.result wide.ensures wide2.ensures (omega arith) _ present.ensures
-    if1.true _ single-above.ensures c.if-single_above.true c.if-limit-s.true
-
-pub single_above-requires-2 : goal.single_above-requires-2
-single_above-requires-2 c =
-    let tally = c.tally-sizes in
-    let l = tally.ensures.long in (l, omega arith)
-
-pub returns : goal.returns
-returns c =
     let numbers = c.args.numbers.now in
+    let sizes = c.tally-sizes in
+    elim c.if-present.branch [
+      | then-present w ↦
+          lt-ltb _ _ c.if-limit-s.true
+          ∙ sized_third run numbers sizes.result sizes.ensures _ _ refl refl (omega arith) _ c.present.ensures w.if-present.true _ w.single_above.ensures
+          (sym w.value-is ∙ c.if-single_above.true) c.if-limit-s.true
+      | else-present w ↦ clash c.if-present.value c.if-single_above.true (w.value-is ∙ w.if-present.false)
+    ]
+
+pub returns-else-limit-s : goal.returns-else-limit-s
+returns-else-limit-s c =
     let run = c.args.run in
-    let wide = c.wide-limit in
-    let wide2 = c.wide-s in
-    let tally = c.tally-sizes in
-    let present = c.present in
-    let if1 = c.if-present in
-    let single-above = c.single_above in
-    let if2 = c.if-single_above in
-    let if3 = c.if-limit-s in
-    sized_last run numbers tally.result tally.ensures wide.result wide2.result wide.ensures wide2.ensures (omega arith) _ present.ensures
-    if1.true _ single-above.ensures _ if2.true if3.false c.single_above-2.ensures
+    let numbers = c.args.numbers.now in
+    let sizes = c.tally-sizes in
+    elim c.if-present.branch [
+      | then-present w ↦
+          sized_last run numbers sizes.result sizes.ensures _ _ refl refl (omega arith) _ c.present.ensures w.if-present.true _ w.single_above.ensures
+          _ (sym w.value-is ∙ c.if-single_above.true) c.if-limit-s.false c.single_above-else-limit-s.ensures
+      | else-present w ↦ clash c.if-present.value c.if-single_above.true (w.value-is ∙ w.if-present.false)
+    ]

@@ -1,3 +1,5 @@
+use Prim.Native.Nat.{◌+◌, ◌-◌}
+use mathlib.Core.Path.{◌≡◌}
 use native.Mathlib.Omega.{arith}
 use Rattle.layers.proofs.Reading.{present_next, present_bad, present_end}
 use Rattle.layers.proofs.formed.present.Goals as goal
@@ -10,7 +12,8 @@ returns-then-sizes-i-eq0 c =
     let i = turn.i in
     let inv = turn.invariant in
     let loop-test = c.loop-i-test in
-    present_bad s i sizes loop-test.true inv.1 c.if-sizes-i-eq0.true
+    let back : i - 1 + 1 ≡ i = omega arith in
+    present_bad s i sizes loop-test.true inv.1 (rw back at c.if-sizes-i-eq0.true)
 
 pub loop-i-preserved : goal.loop-i-preserved
 loop-i-preserved c =
@@ -20,7 +23,8 @@ loop-i-preserved c =
     let i = turn.i in
     let inv = turn.invariant in
     let loop-test = c.loop-i-test in
-    (omega arith, present_next s i sizes loop-test.true inv.1 c.if-sizes-i-eq0.false)
+    let back : i - 1 + 1 ≡ i = omega arith in
+    (omega arith, present_next s i sizes loop-test.true inv.1 (rw back at c.if-sizes-i-eq0.false))
 
 pub returns : goal.returns
 returns c =

@@ -5,6 +5,3 @@ use Rattle.layers.proofs.formed.present.Given as goal
 
 abbrev pub invariant-loop-i : goal.invariant-loop-i
 invariant-loop-i l = (l.i ≤ l.s) × (present_in l.s l.sizes ≡ present_in l.i l.sizes)
-
-abbrev pub decreases-loop-i : goal.decreases-loop-i
-decreases-loop-i l = l.i

@@ -1,3 +1,5 @@
+use Prim.Native.Nat.{◌+◌, ◌-◌}
+use mathlib.Core.Path.{◌≡◌}
 use native.Mathlib.Omega.{arith}
 use Rattle.layers.proofs.Reading.{single_next, single_bad, single_end}
 use Rattle.layers.proofs.formed.single_above.Goals as goal
@@ -11,7 +13,8 @@ returns-then-sizes-i-gt1 c =
     let i = turn.i in
     let inv = turn.invariant in
     let loop-test = c.loop-i-test in
-    single_bad limit s i sizes loop-test.true inv.1 c.if-sizes-i-gt1.true
+    let back : i - 1 + 1 ≡ i = omega arith in
+    single_bad limit s i sizes loop-test.true inv.1 (rw back at c.if-sizes-i-gt1.true)
 
 pub loop-i-preserved : goal.loop-i-preserved
 loop-i-preserved c =
@@ -22,7 +25,8 @@ loop-i-preserved c =
     let i = turn.i in
     let inv = turn.invariant in
     let loop-test = c.loop-i-test in
-    (omega arith, single_next limit s i sizes loop-test.true inv.1 c.if-sizes-i-gt1.false)
+    let back : i - 1 + 1 ≡ i = omega arith in
+    (omega arith, single_next limit s i sizes loop-test.true inv.1 (rw back at c.if-sizes-i-gt1.false))
 
 pub returns : goal.returns
 returns c =

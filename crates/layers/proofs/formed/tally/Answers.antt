@@ -1,52 +1,27 @@
 use native.Mathlib.Omega.{arith}
+use mathlib.Core.Path.{refl}
 use Rattle.layers.proofs.Reading.{tally_start, tally_low, tally_one, tally_skip, tally_end}
 use Rattle.layers.proofs.formed.tally.Goals as goal
+use Rattle.layers.proofs.formed.tally.Goals.{then-n-lt-NUMBERS, else-n-lt-NUMBERS}
 
-pub loop-i-init : goal.loop-i-init
-loop-i-init c = (omega arith, tally_start c.args.numbers.now)
-
-pub bounds-sizes-n : goal.bounds-sizes-n
-bounds-sizes-n c =
-    omega arith
+pub loop-number-init : goal.loop-number-init
+loop-number-init c = tally_start c.args.numbers.now
 
 pub overflow_add-sizes : goal.overflow_add-sizes
 overflow_add-sizes c =
     let numbers = c.args.numbers.now in
-    let turn = c.loop-i in
-    let i = turn.i in
-    let inv = turn.invariant in
-    let sizes = turn.sizes in
-    let loop-test = c.loop-i-test in
-    let wide = c.wide-n in
-    omega (arith, tally_low numbers sizes i wide.result loop-test.true inv.1 wide.ensures c.if-n-lt-NUMBERS.true)
-
-pub bounds-sizes-n-then-n-lt-NUMBERS : goal.bounds-sizes-n-then-n-lt-NUMBERS
-bounds-sizes-n-then-n-lt-NUMBERS c =
+    let loop = c.loop-number in
+    let low = tally_low numbers loop.sizes loop.number-index _ c.loop-number-test.true loop.invariant refl c.if-n-lt-NUMBERS.true in
     omega arith
 
-pub loop-i-preserved-then-n-lt-NUMBERS : goal.loop-i-preserved-then-n-lt-NUMBERS
-loop-i-preserved-then-n-lt-NUMBERS c =
+pub loop-number-preserved : goal.loop-number-preserved
+loop-number-preserved c =
     let numbers = c.args.numbers.now in
-    let turn = c.loop-i in
-    let i = turn.i in
-    let inv = turn.invariant in
-    let sizes = turn.sizes in
-    let loop-test = c.loop-i-test in
-    let wide = c.wide-n in
-    (omega arith, tally_one numbers sizes i wide.result loop-test.true inv.1 wide.ensures c.if-n-lt-NUMBERS.true)
-
-pub loop-i-preserved : goal.loop-i-preserved
-loop-i-preserved c =
-    let numbers = c.args.numbers.now in
-    let turn = c.loop-i in
-    let i = turn.i in
-    let inv = turn.invariant in
-    let sizes = turn.sizes in
-    let loop-test = c.loop-i-test in
-    let wide = c.wide-n in
-    (omega arith, tally_skip numbers sizes i wide.result loop-test.true inv.1 wide.ensures c.if-n-lt-NUMBERS.false)
+    let loop = c.loop-number in
+    elim c.if-n-lt-NUMBERS.branch [
+      | then-n-lt-NUMBERS w ↦ rw w.sizes-is (tally_one numbers loop.sizes loop.number-index _ c.loop-number-test.true loop.invariant refl w.if-n-lt-NUMBERS.true)
+      | else-n-lt-NUMBERS w ↦ rw w.sizes-is (tally_skip numbers loop.sizes loop.number-index _ c.loop-number-test.true loop.invariant refl w.if-n-lt-NUMBERS.false)
+    ]
 
 pub returns : goal.returns
-returns c =
-    let numbers = c.args.numbers.now in
-    tally_end numbers c.loop-i.sizes c.loop-i.i c.loop-i-test.false c.loop-i.invariant.1
+returns c = tally_end c.args.numbers.now c.loop-number.sizes c.loop-number.number-index (omega arith) c.loop-number.invariant

@@ -1,30 +1,23 @@
 use native.Mathlib.Omega.{arith}
 use mathlib.Core.Path.{◌∙◌}
 use lib.Dec.{ltb}
-use Rattle.layers.proofs.Reading.{used_one, used_none, count_whole}
+use lib.ListN.{get_or}
+use Rattle.lists.proofs.Leaves.{byte_one}
+use Rattle.layers.proofs.Reading.{used_next, count_whole}
 use Rattle.layers.proofs.formed.used.Goals as goal
 
-pub loop-i-preserved-then-number-gt0 : goal.loop-i-preserved-then-number-gt0
-loop-i-preserved-then-number-gt0 c =
-    let numbers = c.args.numbers.now in
-    let turn = c.loop-i in
-    let i = turn.i in
-    let inv = turn.invariant in
-    let n = turn.n in
-    let loop-test = c.loop-i-test in
-    (omega arith, omega arith, used_one numbers i n loop-test.true inv.2 c.if-number-gt0.true)
+pub overflow_add-n : goal.overflow_add-n
+overflow_add-n c =
+    let told = c.from-n.ensures in
+    let one = byte_one (ltb 0 (get_or c.args.numbers.now c.loop-number.number-index 0)) in
+    omega arith
 
-pub loop-i-preserved : goal.loop-i-preserved
-loop-i-preserved c =
-    let numbers = c.args.numbers.now in
-    let turn = c.loop-i in
-    let i = turn.i in
-    let inv = turn.invariant in
-    let n = turn.n in
-    let loop-test = c.loop-i-test in
-    (omega arith, omega arith, used_none numbers i n loop-test.true inv.2 c.if-number-gt0.false)
+pub loop-number-preserved : goal.loop-number-preserved
+loop-number-preserved c =
+    let loop = c.loop-number in
+    let told = c.from-n.ensures in
+    let one = byte_one (ltb 0 (get_or c.args.numbers.now loop.number-index 0)) in
+    (omega arith, rw told (used_next c.args.numbers.now loop.number-index loop.n c.loop-number-test.true loop.invariant.1))
 
 pub returns : goal.returns
-returns c =
-    let numbers = c.args.numbers.now in
-    c.loop-i.invariant.2 ∙ count_whole (λ m. ltb 0 m) numbers c.loop-i.i c.loop-i-test.false
+returns c = c.loop-number.invariant.1 ∙ count_whole (λ m. ltb 0 m) c.args.numbers.now c.loop-number.number-index (omega arith)

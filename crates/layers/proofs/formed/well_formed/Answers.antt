@@ -4,12 +4,7 @@ use Rattle.layers.proofs.WellFormed.{well_by_table, ill_by_counts}
 use Rattle.layers.proofs.formed.well_formed.Goals as goal
 
 pub returns-then-counts_formed : goal.returns-then-counts_formed
-returns-then-counts_formed c =
-    let run = c.args.run in
-    let counts-formed = c.counts_formed in
-    c.table_formed.ensures ∙ well_by_table run _ (sym counts-formed.ensures ∙ c.if-counts_formed.true)
+returns-then-counts_formed c = c.table_formed.ensures ∙ well_by_table c.args.run _ (sym c.counts_formed.ensures ∙ c.if-counts_formed.true)
 
-pub returns : goal.returns
-returns c =
-    let run = c.args.run in
-    ill_by_counts run _ (sym c.counts_formed.ensures ∙ c.if-counts_formed.false)
+pub returns-else-counts_formed : goal.returns-else-counts_formed
+returns-else-counts_formed c = c.if-counts_formed.false ∙ ill_by_counts c.args.run _ (sym c.counts_formed.ensures ∙ c.if-counts_formed.false)

@@ -6,6 +6,3 @@ use Rattle.layers.proofs.questions.singles_at_top.Given as goal
 
 abbrev pub invariant-loop-i : goal.invariant-loop-i
 invariant-loop-i l = (l.i + l.n ≡ l.s) × (revealed l.s (numbered l.numbers) ≡ l.n + revealed l.i (numbered l.numbers))
-
-abbrev pub decreases-loop-i : goal.decreases-loop-i
-decreases-loop-i l = l.i
