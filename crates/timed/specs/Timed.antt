@@ -9,6 +9,7 @@ use Rattle.paging.specs.Table.{rows_after}
 use Rattle.table.specs.Filling.{TableFilled}
 use Rattle.table.specs.Serving.{Sound, SteppedTo}
 use Rattle.table.specs.declared.Stepped.{Stepped}
+use Rattle.timed.specs.declared.Asked.{Asked}
 
 -- a table in order with a time for each place, 0 behind the used ones; no page has two rows, and p has the row `at`, or none and `at` is `used`
 pub record TimedReady (k a s p at used : ℕ) (numbers pages times : List ℕ) : Type 0 where
@@ -27,3 +28,11 @@ pub record TimedTo (k a s p t used : ℕ) (numbers pages times numbers' pages' t
       ++ replicate (length pages - length (rows_after k a s p (rows_of numbers pages))) 0)
   pub pages_length : length pages' ≡ length pages
   pub numbers_length : length numbers' ≡ length pages
+
+-- both for a request as the code is handed it
+abbrev pub ReadyFor : Asked → (numbers pages times : List ℕ) → Type 0
+ReadyFor asked numbers pages times = TimedReady asked.k asked.a asked.s asked.page asked.at asked.used numbers pages times
+
+abbrev pub ServedAs : Asked → (numbers pages times numbers' pages' times' : List ℕ) → Option Stepped → Type 0
+ServedAs asked numbers pages times numbers' pages' times' r =
+    TimedTo asked.k asked.a asked.s asked.page asked.time asked.used numbers pages times numbers' pages' times' r
