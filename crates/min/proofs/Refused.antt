@@ -1,32 +1,57 @@
 -- Refusals 1, 2 and 3: the first condition that holds decides, and what is known where none holds.
+use Rattle.std.specs.Prelude.{Ok, Err}
+use Rattle.paging.specs.Numbers.{number_of}
+use Rattle.paging.specs.declared.reasons.Refusal.{Refusal}
+use Rattle.paging.specs.declared.reasons.Refusal.TheVariants.{BufferSize, BundleSize, TraceTooLong, WrongMark, CutShort, WrongRecord, TooManyHeld, TooLittleRoom, IllFormed, TableFull, PageTwice, CounterFull, EmptyRun}
 use Prim.Native.Nat.{ℕ, zero, suc, ◌≤◌, ◌<◌}
 use native.Mathlib.Omega.{arith}
 use mathlib.Core.List.{List, ◌++◌}
-use mathlib.Core.Path.{◌≡◌, refl, sym, ◌∙◌}
+use mathlib.Core.Path.{◌≡◌, refl, sym}
 use lib.ListN.{length, drop}
 use borrow.Author.Tests.{lt-ltb, le-ltb, eqb-false}
 use Rattle.paging.specs.Min.{best_count, min_loads}
 use Rattle.paging.specs.Refusals.{trace_refusal}
 use Rattle.paging.proofs.Refusals.{trace_right, trace_fall, trace_pass}
-use Rattle.min.specs.Calls.{counts_by, min_schedule, bytes_refusal, scheduled_by, bytes_by, scheduled_of, bytes_of}
+use Rattle.min.specs.Answers.{ScheduledAnswer, counts_answer, scheduled_answer}
+use Rattle.min.specs.Calls.{counts_by, counts_of, min_schedule, bytes_refusal, scheduled_by, bytes_by, scheduled_of, bytes_of}
 use Rattle.min.specs.declared.Counts.{Counts}
-use Rattle.min.specs.declared.Scheduled.{Scheduled}
 use Rattle.min.specs.inner.Run.{Accepted}
 
 -- where nothing is refused, the sizes are right and the trace is short enough
-pub accepted : (k a : ℕ) (trace lefts : List ℕ) → trace_refusal k a trace 0 ≡ 0 → 65536 ≤ length lefts → Accepted k a trace lefts
+pub accepted : (k a : ℕ) (trace lefts : List ℕ) → 0 ≡ trace_refusal k a trace 0 → 65536 ≤ length lefts → Accepted k a trace lefts
 accepted k a trace lefts e h =
-    let right = trace_right k a trace 0 e in
+    let right = trace_right k a trace 0 (sym e) in
     record { sizes = right.0; short = right.1; room = omega (arith, right.1) }
 
--- a refusal is zero in every other field
-pub counts_refused : (n k a : ℕ) (trace : List ℕ) → (n ≡ 0 → ⊥)
-    → ◌≡◌ {A = Counts} (record { refusal = n; bundles = 0; loads = 0 }) (counts_by n k a trace)
-counts_refused zero k a trace z = absurd (z refl)
-counts_refused (suc n) k a trace z = refl
+number_above : (reason : Refusal) → number_of reason ≡ 0 → ⊥
+number_above BufferSize z = absurd (omega arith)
+number_above BundleSize z = absurd (omega arith)
+number_above TraceTooLong z = absurd (omega arith)
+number_above WrongMark z = absurd (omega arith)
+number_above CutShort z = absurd (omega arith)
+number_above WrongRecord z = absurd (omega arith)
+number_above TooManyHeld z = absurd (omega arith)
+number_above TooLittleRoom z = absurd (omega arith)
+number_above IllFormed z = absurd (omega arith)
+number_above TableFull z = absurd (omega arith)
+number_above PageTwice z = absurd (omega arith)
+number_above CounterFull z = absurd (omega arith)
+number_above EmptyRun z = absurd (omega arith)
 
-pub scheduled_refused : (n k a : ℕ) (trace out : List ℕ) → (n ≡ 0 → ⊥)
-    → (◌≡◌ {A = Scheduled} (record { refusal = n; bundles = 0; loads = 0; length = 0 }) (scheduled_by n k a trace)) × (out ≡ bytes_by n k a trace out)
+counts_number : (n k a : ℕ) (trace : List ℕ) → (n ≡ 0 → ⊥) → record { refusal = n; bundles = 0; loads = 0 } ≡ counts_by n k a trace
+counts_number zero k a trace z = absurd (z refl)
+counts_number (suc n) k a trace z = refl
+
+pub counts_refused : (k a : ℕ) (trace : List ℕ) (reason : Refusal) → number_of reason ≡ trace_refusal k a trace 0
+    → counts_answer (Err reason) ≡ counts_of k a trace
+counts_refused k a trace reason e = rw (← e) (counts_number (number_of reason) k a trace (number_above reason))
+
+pub counts_served : (k a : ℕ) (trace : List ℕ) (counts : Counts) → 0 ≡ trace_refusal k a trace 0 → counts.bundles ≡ best_count k a trace
+    → counts.loads ≡ min_loads k a trace → counts_answer (Ok counts) ≡ counts_of k a trace
+counts_served k a trace counts z e f = rw (← z, e, f) refl
+
+scheduled_refused : (n k a : ℕ) (trace out : List ℕ) → (n ≡ 0 → ⊥)
+    → (record { refusal = n; bundles = 0; loads = 0; length = 0 } ≡ scheduled_by n k a trace) × (out ≡ bytes_by n k a trace out)
 scheduled_refused zero k a trace out z = absurd (z refl)
 scheduled_refused (suc n) k a trace out z = (refl, refl)
 
@@ -41,24 +66,27 @@ bytes_enough k a trace out h = rw (le-ltb (length out) (length (min_schedule k a
 
 -- the answer and the bytes of the call that writes, by whether the bytes suffice
 pub scheduled_few : (k a : ℕ) (trace out : List ℕ) → length out < length (min_schedule k a trace)
-    → (◌≡◌ {A = Scheduled} (record { refusal = 8; bundles = 0; loads = 0; length = 0 }) (scheduled_by (bytes_refusal k a trace out) k a trace))
+    → (scheduled_answer (Err TooLittleRoom) ≡ scheduled_by (bytes_refusal k a trace out) k a trace)
     × (out ≡ bytes_by (bytes_refusal k a trace out) k a trace out)
 scheduled_few k a trace out h = rw (bytes_few k a trace out h) (scheduled_refused 8 k a trace out (eqb-false 8 0 refl))
 
 pub scheduled_whole : (k a bundles loads size : ℕ) (trace out out' : List ℕ) → bundles ≡ best_count k a trace → loads ≡ min_loads k a trace
     → size ≡ length (min_schedule k a trace) → size ≤ length out → out' ≡ min_schedule k a trace ++ drop (length (min_schedule k a trace)) out
-    → (◌≡◌ {A = Scheduled} (record { refusal = 0; bundles = bundles; loads = loads; length = size }) (scheduled_by (bytes_refusal k a trace out) k a trace))
+    → (record { refusal = 0; bundles = bundles; loads = loads; length = size } ≡ scheduled_by (bytes_refusal k a trace out) k a trace)
     × (out' ≡ bytes_by (bytes_refusal k a trace out) k a trace out)
-scheduled_whole k a bundles loads size trace out out' e f g h p = rw (bytes_enough k a trace out (omega arith)) (rw (e, f, g), p)
+scheduled_whole k a bundles loads size trace out out' e f g h p = rw (bytes_enough k a trace out (omega arith)) (rw (e, f, g) refl, p)
 
 -- and behind refusals 1, 2 and 3
-pub schedule_refused : (k a n : ℕ) (trace out : List ℕ) → n ≡ trace_refusal k a trace 0 → (n ≡ 0 → ⊥)
-    → (◌≡◌ {A = Scheduled} (record { refusal = n; bundles = 0; loads = 0; length = 0 }) (scheduled_of k a trace out)) × (out ≡ bytes_of k a trace out)
-schedule_refused k a n trace out e z =
-    let f = trace_fall k a trace (bytes_refusal k a trace out) n e z in
-    rw f (scheduled_refused n k a trace out z)
+pub schedule_refused : (k a : ℕ) (trace out : List ℕ) (reason : Refusal) → number_of reason ≡ trace_refusal k a trace 0
+    → (scheduled_answer (Err reason) ≡ scheduled_of k a trace out) × (out ≡ bytes_of k a trace out)
+schedule_refused k a trace out reason e =
+    let f = trace_fall k a trace (bytes_refusal k a trace out) (number_of reason) e (number_above reason) in
+    rw f (scheduled_refused (number_of reason) k a trace out (number_above reason))
 
-pub schedule_passes : (k a n : ℕ) (trace out out' : List ℕ) (r : Scheduled) → n ≡ trace_refusal k a trace 0 → n ≡ 0
+pub schedule_passes : (k a : ℕ) (trace out out' : List ℕ) (r : ScheduledAnswer) → 0 ≡ trace_refusal k a trace 0
     → (r ≡ scheduled_by (bytes_refusal k a trace out) k a trace) × (out' ≡ bytes_by (bytes_refusal k a trace out) k a trace out)
     → (r ≡ scheduled_of k a trace out) × (out' ≡ bytes_of k a trace out)
-schedule_passes k a n trace out out' r e z p = rw (trace_pass k a trace (bytes_refusal k a trace out) (sym e ∙ z)) p
+schedule_passes k a trace out out' r z p = rw (trace_pass k a trace (bytes_refusal k a trace out) (sym z)) p
+
+pub ruleset count_rules =
+    (accepted, counts_refused, counts_served)

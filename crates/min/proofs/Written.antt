@@ -4,15 +4,17 @@ use native.Mathlib.Nat.{mul-le-mul_left, mul-le-mul_right, zero-add}
 use native.Mathlib.Omega.{arith}
 use mathlib.Core.Bool.{false}
 use mathlib.Core.List.{List, [], ◌++◌, map, append-nil, append_assoc}
-use mathlib.Core.Logic.{◌⊎◌, inl, inr}
 use mathlib.Core.Path.{◌≡◌, refl, sym, ◌∙◌, ap}
 use lib.ListN.{length, take, drop, get_or, set, length-append, length-take, length-drop, length-map, get_or-map, drop_of_length-le}
-use lib.Seq.{take_at, take_all, take-take, length-take-le, drop-drop, drop-length}
-use borrow.Author.Tests.{le-ltb, ne_eqb}
+use lib.Seq.{take_at, take_all, length-take-le, drop-drop, drop-length}
+use borrow.Author.Tests.{le-ltb}
 use Rattle.lists.specs.Places.{over}
 use Rattle.lists.proofs.Leaves.{over_turn}
 use Rattle.paging.specs.Min.{best_count}
-use Rattle.paging.specs.Policy.{Kind, hit, load, bundled, is_bundled, kind_number}
+use Rattle.paging.specs.Numbers.{kind_of_outcome}
+use Rattle.paging.specs.declared.outcomes.Outcome.{Outcome}
+use Rattle.paging.specs.declared.outcomes.Outcome.TheVariants.{Hit, Load, LoadAfterBundle}
+use Rattle.paging.specs.Policy.{Kind, hit, load, bundled, is_bundled}
 use Rattle.paging.specs.Schedule.{Entry}
 use Rattle.wire.specs.Numbers.{placed}
 use Rattle.wire.proofs.Numbers.{length_placed, placed_none, placed_join}
@@ -20,13 +22,13 @@ use Rattle.records.specs.Bytes.{ka_bytes, ev_bytes, entry_bytes, joined, ev_leng
 use Rattle.records.specs.Writing.{put_length, put_bytes, pages_refused}
 use Rattle.records.proofs.Lengths.{length_ev_bytes}
 use Rattle.records.proofs.Writing.{pages_fine}
-use Rattle.keys.specs.Keys.{key_of, page_of, key, kind_in, serve_keys, bundle_of, bundles_of, kind_from, Room}
+use Rattle.keys.specs.Keys.{page_of, key, kind_in, serve_keys, bundle_of, bundles_of}
 use Rattle.keys.proofs.Order.{Pages}
 use Rattle.min.specs.Calls.{min_schedule}
 use Rattle.min.specs.inner.Run.{PassReady, Writing, EvRoom, BundleRoom}
-use Rattle.min.proofs.Model.{take_map, best_same, bundles_same, kept_none}
+use Rattle.min.proofs.Model.{best_same, bundles_same, kept_none}
 use Rattle.min.proofs.ReadBack.{schedule_long}
-use Rattle.min.proofs.Turn.{count_kinds, room, stands, bundles_now, bundles_turn}
+use Rattle.min.proofs.Turn.{count_kinds, room, standing_starts, stands, bundles_now, bundles_turn}
 
 -- The pages of a bundle
 
@@ -37,13 +39,12 @@ pages_turn i held pages₀ pages page h g e f =
     let n = length-map held page_of in
     rw (e, d) (over_turn (map page_of held) pages₀ i (omega arith) g)
 
-pub pages_done : (i a : ℕ) (held pages₀ pages : List ℕ) → i ≡ a → a ≤ length held → pages ≡ over (map page_of held) pages₀ i
-    → take a pages ≡ map page_of (take a held)
+pub pages_done : (i : ℕ) (held pages₀ pages : List ℕ) → i ≡ length held → pages ≡ over (map page_of held) pages₀ i
+    → take (length held) pages ≡ map page_of held
 unfolding over
-pages_done i a held pages₀ pages m h e =
-    let n = length-map held page_of in
-    rw (e, m)
-    (take_at (take a (map page_of held)) (drop a pages₀) a (length-take-le a (map page_of held) (omega arith)) ∙ take_map page_of a held)
+pages_done i held pages₀ pages m h =
+    let n : length (map page_of held) ≡ length held = length-map held page_of in
+    rw (h, m, take_all (length held) (map page_of held) (omega arith)) (take_at (map page_of held) (drop (length held) pages₀) (length held) n)
 
 -- One EV
 
@@ -56,13 +57,13 @@ put_ev t a pages rest e p s h =
     let g = le-ltb (length rest) (length (ev_bytes t pages)) (omega arith) in
     (rw (f, g) l, rw (f, g))
 
-pub put_bundle_is : (t a r : ℕ) (pages held rest rest' : List ℕ) → EvRoom a held rest → pages ≡ map page_of (take a held)
+pub put_bundle_is : (t r : ℕ) (pages bundle rest rest' : List ℕ) → EvRoom bundle rest → pages ≡ map page_of bundle
     → r ≡ put_length (pages_refused (length pages)) (ev_bytes t pages) rest
     → rest' ≡ put_bytes (pages_refused (length pages)) (ev_bytes t pages) rest
-    → (r ≡ ev_length a) × (rest' ≡ placed rest 0 (ev_bytes t (map page_of (take a held))))
-put_bundle_is t a r pages held rest rest' room e f g =
-    let n : length pages ≡ a = ap length e ∙ length-map (take a held) page_of ∙ length-take-le a held room.held in
-    let p = put_ev t a pages rest n room.some room.small room.room in
+    → (r ≡ ev_length (length bundle)) × (rest' ≡ placed rest 0 (ev_bytes t (map page_of bundle)))
+put_bundle_is t r pages bundle rest rest' room e f g =
+    let n : length pages ≡ length bundle = ap length e ∙ length-map bundle page_of in
+    let p = put_ev t (length bundle) pages rest n room.some room.small room.room in
     (f ∙ p.0, g ∙ p.1 ∙ ap (λ (l : List ℕ). placed rest 0 (ev_bytes t l)) e)
 
 -- the rest of the bytes, lent and come back
@@ -92,129 +93,97 @@ joined_bundle bundled a t keys rest =
 
 -- One request: nothing where it makes no bundle, else the EV in the rest of the bytes
 
-bundle_none : (kind a t : ℕ) (keys : List ℕ) → (kind ≡ 0) ⊎ (kind ≡ 1) → joined entry_bytes (bundle_of (kind_from kind) a t keys []) ≡ []
-bundle_none kind a t keys (inl e) = rw e
-bundle_none kind a t keys (inr e) = rw e
+pub puts_none : (outcome : Outcome) (a t at : ℕ) (keys out : List ℕ) → (outcome ≡ LoadAfterBundle → ⊥)
+    → (at ≡ at + length (joined entry_bytes (bundle_of (kind_of_outcome outcome) a t keys [])))
+    × (out ≡ placed out at (joined entry_bytes (bundle_of (kind_of_outcome outcome) a t keys [])))
+puts_none Hit a t at keys out e = (omega arith, placed_none out at)
+puts_none Load a t at keys out e = (omega arith, placed_none out at)
+puts_none LoadAfterBundle a t at keys out e = absurd (e refl)
 
-bundle_some : (kind a t n : ℕ) (keys : List ℕ) → (kind ≡ 0 → ⊥) → (kind ≡ 1 → ⊥) → a ≤ n
-    → joined entry_bytes (bundle_of (kind_from kind) a t (take n keys) []) ≡ ev_bytes t (map page_of (take a keys))
-bundle_some kind a t n keys e f h = rw (ne_eqb kind 0 e, ne_eqb kind 1 f, take-take a n keys h) (append-nil (ev_bytes t (map page_of (take a keys))))
+module _ (a t at : ℕ) (keys out : List ℕ) (r : BundleRoom bundled a t at keys out) where
+  bundle_length : length (take a keys) ≡ a
+  bundle_length = length-take-le a keys r.asked.1
 
-puts_none : (kind n a t at : ℕ) (keys out : List ℕ) → (kind ≡ 0) ⊎ (kind ≡ 1)
-    → (at ≡ at + length (joined entry_bytes (bundle_of (kind_from kind) a t (take n keys) [])))
-    × (out ≡ placed out at (joined entry_bytes (bundle_of (kind_from kind) a t (take n keys) [])))
-puts_none kind n a t at keys out e = rw (bundle_none kind a t (take n keys) e) (omega arith, placed_none out at)
-
-pub puts_hit : (kind n a t at : ℕ) (keys out : List ℕ) → kind ≡ 0
-    → (at ≡ at + length (joined entry_bytes (bundle_of (kind_from kind) a t (take n keys) [])))
-    × (out ≡ placed out at (joined entry_bytes (bundle_of (kind_from kind) a t (take n keys) [])))
-puts_hit kind n a t at keys out e = puts_none kind n a t at keys out (inl e)
-
-pub puts_load : (kind n a t at : ℕ) (keys out : List ℕ) → kind ≡ 1
-    → (at ≡ at + length (joined entry_bytes (bundle_of (kind_from kind) a t (take n keys) [])))
-    × (out ≡ placed out at (joined entry_bytes (bundle_of (kind_from kind) a t (take n keys) [])))
-puts_load kind n a t at keys out e = puts_none kind n a t at keys out (inr e)
-
-pub ruleset puts_rules = (puts_hit, puts_load)
-
-module _ (kind n a t at : ℕ) (keys out : List ℕ) (r : BundleRoom kind n a t at keys out) (e : kind ≡ 0 → ⊥) (f : kind ≡ 1 → ⊥) where
   some_length : length (ev_bytes t (map page_of (take a keys))) ≡ ev_length a
-  some_length =
-      length_ev_bytes t (map page_of (take a keys))
-      ∙ ap ev_length (length-map (take a keys) page_of ∙ length-take-le a keys (omega (arith, r.held, r.full e f)))
+  some_length = length_ev_bytes t (map page_of (take a keys)) ∙ ap ev_length (length-map (take a keys) page_of ∙ bundle_length)
 
   pub puts_room : at + ev_length a ≤ length out
-  puts_room = omega (arith, some_length, ap length (bundle_some kind a t n keys e f (r.full e f)), r.room)
+  puts_room = omega (arith, some_length, ap length (append-nil (ev_bytes t (map page_of (take a keys)))), r.room)
 
-  pub ev_room : EvRoom a keys (take (length out - at) (drop at out))
+  pub ev_room : EvRoom (take a keys) (take (length out - at) (drop at out))
   ev_room =
       record {
-        some = r.some;
-        small = r.small;
-        held = omega (arith, r.held, r.full e f);
-        room = omega (arith, puts_room, length-take (length out - at) (drop at out), length-drop at out);
+        some = omega (arith, bundle_length, r.asked.0);
+        small = omega (arith, bundle_length, r.asked.1, r.small);
+        room = omega (arith, bundle_length, puts_room, length-take (length out - at) (drop at out), length-drop at out);
       }
 
-  pub puts_some : (size : ℕ) (rest : List ℕ) → size ≡ ev_length a
+  pub puts_some : (size : ℕ) (rest : List ℕ) → size ≡ ev_length (length (take a keys))
       → rest ≡ placed (take (length out - at) (drop at out)) 0 (ev_bytes t (map page_of (take a keys)))
-      → (at + size ≡ at + length (joined entry_bytes (bundle_of (kind_from kind) a t (take n keys) [])))
+      → (at + size ≡ at + length (joined entry_bytes (bundle_of bundled a t keys [])))
       × (take at out ++ (rest ++ drop (length out - at) (drop at out))
-      ≡ placed out at (joined entry_bytes (bundle_of (kind_from kind) a t (take n keys) [])))
+      ≡ placed out at (joined entry_bytes (bundle_of bundled a t keys [])))
   puts_some size rest s p =
-      rw (bundle_some kind a t n keys e f (r.full e f))
-      (omega (arith, some_length, s), rw p (back_placed out at (ev_bytes t (map page_of (take a keys)))))
+      let b = ev_bytes t (map page_of (take a keys)) in
+      let e : joined entry_bytes (bundle_of bundled a t keys []) ≡ b = append-nil b in
+      (omega (arith, some_length, s, bundle_length, ap length e), rw p (back_placed out at b) ∙ ap (placed out at) (sym e))
 
 -- All requests
 
-pub writing_starts : (k a from : ℕ) (trace keys out : List ℕ) → length keys ≡ 256
-    → from + length (joined entry_bytes (bundles_of k a 0 trace [])) ≤ length out → Writing k a 0 0 from from trace keys out out
-writing_starts k a from trace keys out e h =
-    record {
-      stands = record { within = omega arith; held = omega arith; places = e; ordered = tt };
-      room = h;
-      same = refl;
-      whole = refl;
-    }
+pub writing_starts : (k a from : ℕ) (trace out : List ℕ) → from + length (joined entry_bytes (bundles_of k a 0 trace [])) ≤ length out
+    → Writing k a 0 from from trace [] out out
+writing_starts k a from trace out h = record { stands = standing_starts k trace; room = h; same = refl; whole = refl }
 
 -- before request t, of the kind that the code has found
-module _ (k a t n at from present kind : ℕ) (trace lefts keys out₀ out : List ℕ) (ready : PassReady k a trace lefts)
-    (w : Writing k a t n at from trace keys out₀ out) (more : t < length trace)
-    (now-is : present ≡ key_of (length trace - t) (get_or trace t 0)) (kind_is : kind ≡ kind_number (kind_in k present (take n keys))) where
-  rooms : Room kind n a (length keys)
-  rooms = room k a t n present kind trace lefts keys ready w.stands more now-is kind_is
-
+module _ (k a t at from : ℕ) (kind : Kind) (trace lefts keys out₀ out : List ℕ) (ready : PassReady k a trace lefts)
+    (w : Writing k a t at from trace keys out₀ out) (more : t < length trace)
+    (kind_is : kind ≡ kind_in k (key (drop t trace) (get_or trace t 0)) keys) where
   first : List ℕ
-  first = joined entry_bytes (bundle_of (kind_from kind) a t (take n keys) [])
+  first = joined entry_bytes (bundle_of kind a t keys [])
 
   first_fits : at + length first ≤ length out
   unfolding first
   first_fits =
-      let after = bundles_of k a (suc t) (drop (suc t) trace) (serve_keys (kind_from kind) a (key (drop (suc t) trace) (get_or trace t 0)) (take n keys)) in
-      let e = ap (joined entry_bytes) (bundles_now k a t n present kind trace lefts keys ready w.stands more now-is kind_is)
-      ∙ joined_bundle (kind_from kind) a t (take n keys) after in
-      omega (arith, w.room, ap length e, length-append (joined entry_bytes (bundle_of (kind_from kind) a t (take n keys) [])) (joined entry_bytes after))
+      let after = bundles_of k a (suc t) (drop (suc t) trace) (serve_keys kind a (key (drop (suc t) trace) (get_or trace t 0)) keys) in
+      let e = ap (joined entry_bytes) (bundles_now k a t kind trace lefts keys ready w.stands more kind_is) ∙ joined_bundle kind a t keys after in
+      omega (arith, w.room, ap length e, length-append (joined entry_bytes (bundle_of kind a t keys [])) (joined entry_bytes after))
 
-  pub bundle_room : BundleRoom kind n a t at keys out
+  pub bundle_room : BundleRoom kind a t at keys out
   unfolding first
   bundle_room =
       record {
-        some = ready.sizes.a_low;
-        small = omega (arith, ready.sizes.k_high, ready.sizes.a_high);
-        held = rooms.held;
-        full = rooms.full;
+        small = omega (arith, w.stands.held, ready.sizes.k_high);
+        asked = room k a t kind trace lefts keys ready w.stands more kind_is;
         early = omega (arith, ready.short);
         room = first_fits;
       }
 
   -- and after it
-  module _ (next m at' : ℕ) (keys' out' : List ℕ) (next_is : next ≡ key_of (get_or lefts t 0) (get_or trace t 0)) (same : length keys' ≡ length keys)
-      (places : m ≤ length keys) (served : take m keys' ≡ serve_keys (kind_from kind) a next (take n keys))
-      (at-is : at' ≡ at + length (joined entry_bytes (bundle_of (kind_from kind) a t (take n keys) [])))
-      (out-is : out' ≡ placed out at (joined entry_bytes (bundle_of (kind_from kind) a t (take n keys) []))) where
-    pub writing_turn : Writing k a (t + 1) m at' from trace keys' out₀ out'
+  module _ (next at' : ℕ) (keys' out' : List ℕ) (next_is : next ≡ key (drop (t + 1) trace) (get_or trace t 0)) (served : keys' ≡ serve_keys kind a next keys)
+      (at-is : at' ≡ at + length (joined entry_bytes (bundle_of kind a t keys []))) (out-is : out' ≡ placed out at (joined entry_bytes (bundle_of kind a t keys []))) where
+    pub writing_turn : Writing k a (t + 1) at' from trace keys' out₀ out'
     unfolding first
     writing_turn =
-        let b = joined entry_bytes (bundle_of (kind_from kind) a t (take n keys) []) in
-        let after = bundles_of k a (t + 1) (drop (t + 1) trace) (take m keys') in
+        let b = joined entry_bytes (bundle_of kind a t keys []) in
+        let after = bundles_of k a (t + 1) (drop (t + 1) trace) keys' in
         let d = joined entry_bytes after in
-        let e : joined entry_bytes (bundles_of k a t (drop t trace) (take n keys)) ≡ b ++ d
-        = ap (joined entry_bytes)
-        (bundles_turn k a t n present kind trace lefts keys ready w.stands more now-is kind_is next m keys' next_is same places served)
-        ∙ joined_bundle (kind_from kind) a t (take n keys) after in
+        let e : joined entry_bytes (bundles_of k a t (drop t trace) keys) ≡ b ++ d
+        = ap (joined entry_bytes) (bundles_turn k a t kind trace lefts keys ready w.stands more kind_is next keys' next_is served)
+        ∙ joined_bundle kind a t keys after in
         let f : at + length b ≤ length out = first_fits in
         let g = length_placed out at b f in
         record {
-          stands = stands k a t n present kind trace lefts keys ready w.stands more now-is kind_is next m keys' next_is same places served;
+          stands = stands k a t kind trace lefts keys ready w.stands more kind_is next keys' next_is served;
           room = omega (arith, w.room, ap length e, length-append b d, ap length out-is);
           same = ap length out-is ∙ g ∙ w.same;
           whole = rw (out-is, at-is) (placed_join out at b d f ∙ ap (placed out at) (sym e) ∙ w.whole);
         }
 
-pub writing_ends : (k a t n at from : ℕ) (trace keys out₀ out : List ℕ) → Writing k a t n at from trace keys out₀ out → length trace ≤ t
+pub writing_ends : (k a t at from : ℕ) (trace keys out₀ out : List ℕ) → Writing k a t at from trace keys out₀ out → length trace ≤ t
     → out ≡ placed out₀ from (joined entry_bytes (bundles_of k a 0 trace []))
-writing_ends k a t n at from trace keys out₀ out w h =
+writing_ends k a t at from trace keys out₀ out w h =
     let e : t ≡ length trace = omega (arith, w.stands.within) in
-    let f : joined entry_bytes (bundles_of k a t (drop t trace) (take n keys)) ≡ [] = rw (e, drop-length trace) in
+    let f : joined entry_bytes (bundles_of k a t (drop t trace) keys) ≡ [] = rw (e, drop-length trace) in
     placed_none out at ∙ ap (placed out at) (sym f) ∙ w.whole
 
 -- The whole schedule

@@ -5,15 +5,14 @@ use Rattle.paging.specs.Min.{min_rule, best_count, min_loads}
 use Rattle.paging.specs.Policy.{bundles}
 use Rattle.paging.specs.Refusals.{refuse, trace_refusal}
 use Rattle.records.specs.Bytes.{schedule_bytes}
-use Rattle.min.specs.declared.Counts.{Counts}
-use Rattle.min.specs.declared.Scheduled.{Scheduled}
+use Rattle.min.specs.Answers.{CountsAnswer, ScheduledAnswer}
 
-abbrev pub counts_by : (number k a : ℕ) → (trace : List ℕ) → Counts
+abbrev pub counts_by : (number k a : ℕ) → (trace : List ℕ) → CountsAnswer
 counts_by zero k a trace = record { refusal = 0; bundles = best_count k a trace; loads = min_loads k a trace }
 counts_by (suc n) k a trace = record { refusal = suc n; bundles = 0; loads = 0 }
 
 -- the answer of the call that counts
-abbrev pub counts_of : (k a : ℕ) → (trace : List ℕ) → Counts
+abbrev pub counts_of : (k a : ℕ) → (trace : List ℕ) → CountsAnswer
 counts_of k a trace = counts_by (trace_refusal k a trace 0) k a trace
 
 -- The schedule that MIN writes: the file of a KA and an EV for each of its bundles
@@ -25,7 +24,7 @@ min_schedule k a trace = schedule_bytes k a (bundles (min_rule a) k 0 trace [] [
 unfoldable pub bytes_refusal : (k a : ℕ) → (trace out : List ℕ) → ℕ
 bytes_refusal k a trace out = refuse (ltb (length out) (length (min_schedule k a trace))) 8 0
 
-abbrev pub scheduled_by : (number k a : ℕ) → (trace : List ℕ) → Scheduled
+abbrev pub scheduled_by : (number k a : ℕ) → (trace : List ℕ) → ScheduledAnswer
 scheduled_by zero k a trace =
     record { refusal = 0; bundles = best_count k a trace; loads = min_loads k a trace; length = length (min_schedule k a trace) }
 scheduled_by (suc n) k a trace = record { refusal = suc n; bundles = 0; loads = 0; length = 0 }
@@ -39,7 +38,7 @@ bytes_by (suc n) k a trace out = out
 abbrev pub schedule_refusal : (k a : ℕ) → (trace out : List ℕ) → ℕ
 schedule_refusal k a trace out = trace_refusal k a trace (bytes_refusal k a trace out)
 
-abbrev pub scheduled_of : (k a : ℕ) → (trace out : List ℕ) → Scheduled
+abbrev pub scheduled_of : (k a : ℕ) → (trace out : List ℕ) → ScheduledAnswer
 scheduled_of k a trace out = scheduled_by (schedule_refusal k a trace out) k a trace
 
 abbrev pub bytes_of : (k a : ℕ) → (trace out : List ℕ) → List ℕ

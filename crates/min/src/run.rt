@@ -1,63 +1,67 @@
 // One pass of farthest next use over a trace, from the empty buffer: how many bundles and loads it makes.
-ghost use Rattle.std.specs.Prelude.{[], ◌≡◌};
+ghost use Rattle.std.specs.Prelude.{[], ◌≡◌, ◌<◌, ◌+◌, length, drop, get_or};
 ghost use Rattle.lists.specs.Pages.{bit, count};
+ghost use Rattle.paging.specs.Numbers.{kind_of_outcome};
 ghost use Rattle.paging.specs.Policy.{is_bundled, is_load};
-ghost use Rattle.keys.specs.Keys.{kind_from, kinds_of};
+ghost use Rattle.keys.specs.Keys.{key, kind_in, kinds_of};
 ghost use Rattle.min.specs.inner.Run.{PassReady, Accepted, Counted};
 
-use paging::Sizes;
+use crate::Counts;
+use keys::Held;
+use paging::Outcome;
 
-#[derive(Clone, Copy)]
-pub struct Totals {
-    pub bundles: u32,
-    pub loads: u32,
-}
-
-fn bundle_bit(kind: u32) -> u32
-    ensures { result ≡ bit (is_bundled (kind_from kind)) }
+// What request t is, by the keys before it, and the key that its page has from then on.
+pub(crate) fn asked(
+    held: &Held,
+    k: usize,
+    a: usize,
+    trace: &[u32],
+    lefts: &[u32],
+    t: usize,
+) -> (Outcome, u64)
+    requires { PassReady k a trace.now lefts.now × (t < length trace.now) }
+    ensures { (kind_of_outcome result.0 ≡ kind_in k (key (drop t trace.now) (get_or trace.now t 0)) held.now)
+        × (result.1 ≡ key (drop (t + 1) trace.now) (get_or trace.now t 0)) }
 {
-    if kind == 0 {
-        return 0;
-    }
-    if kind == 1 {
-        return 0;
-    }
-    1
+    let page = trace[t];
+    let present = keys::key_of((trace.len() - t) as u32, page);
+    let next = keys::key_of(lefts[t], page);
+    let outcome = held.outcome(k, present);
+    (outcome, next)
 }
 
-fn load_bit(kind: u32) -> u32
-    ensures { result ≡ bit (is_load (kind_from kind)) }
+fn bundle_bit(outcome: Outcome) -> u32
+    ensures { result ≡ bit (is_bundled (kind_of_outcome outcome)) }
 {
-    if kind == 0 {
-        return 0;
-    }
-    1
+    u32::from(outcome == Outcome::LoadAfterBundle)
 }
 
-pub(crate) fn pass(k: usize, a: usize, trace: &[u32], lefts: &[u32]) -> Totals
+fn load_bit(outcome: Outcome) -> u32
+    ensures { result ≡ bit (is_load (kind_of_outcome outcome)) }
+{
+    u32::from(outcome != Outcome::Hit)
+}
+
+// write::put_bundles is the same pass with EVs in place of counts. They are two, since no byte is written before the counts have told that the bytes
+// suffice; a request is read alike in both, by `asked` and `serve`.
+pub(crate) fn pass(k: usize, a: usize, trace: &[u32], lefts: &[u32]) -> Counts
     requires { PassReady k a trace.now lefts.now }
     ensures { (result.bundles ≡ count is_bundled (kinds_of k a trace.now [])) × (result.loads ≡ count is_load (kinds_of k a trace.now [])) }
 {
-    let mut held = [0u64; Sizes::K_MAX as usize];
-    let mut n = 0;
-    let mut t = 0;
+    let mut held = Held::none();
     let mut bundles = 0;
     let mut loads = 0;
-    while t < trace.len() {
-        let page = trace[t];
-        let present = keys::key_of((trace.len() - t) as u32, page);
-        let next = keys::key_of(lefts[t], page);
-        let kind = keys::kind_of(&held, n, k, present);
-        n = keys::serve(&mut held, n, a, kind, next);
-        bundles += bundle_bit(kind);
-        loads += load_bit(kind);
-        t += 1;
+    for t in 0..trace.len() {
+        let (outcome, next) = asked(&held, k, a, trace, lefts, t);
+        held.serve(a, outcome, next);
+        bundles += bundle_bit(outcome);
+        loads += load_bit(outcome);
     }
-    Totals { bundles, loads }
+    Counts { bundles, loads }
 }
 
 // The same for sizes that are not refused, with places lent for the lefts.
-pub(crate) fn counted(k: u32, a: u32, trace: &[u32], lefts: &mut [u32]) -> Totals
+pub(crate) fn counted(k: u32, a: u32, trace: &[u32], lefts: &mut [u32]) -> Counts
     requires { Accepted k a trace.now lefts.old }
     ensures { Counted k a trace.now lefts.new result.bundles result.loads }
 {

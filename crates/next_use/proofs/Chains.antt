@@ -6,12 +6,11 @@ use mathlib.Core.Bool.{false}
 use mathlib.Core.List.{List, [], ◌∷◌}
 use mathlib.Core.Path.{◌≡◌, refl, sym, ◌∙◌, ap}
 use lib.Dec.{eqb, ltb}
-use lib.ListN.{length, take, drop, get_or, set, length-drop, replicate}
+use lib.ListN.{length, take, drop, get_or, set, length-drop}
 use lib.Seq.{drop-cons, drop-length, get_or-set_same, get_or-set_other, get_or-take, ext_get_or, length-take-le}
 use borrow.Author.Tests.{eq-eqb, ne_eqb, eqb-true, eqb-false}
 use Rattle.lists.specs.Choice.{pick}
 use Rattle.lists.proofs.Choice.{tests, cases}
-use Rattle.lists.proofs.Parts.{zeros}
 use Rattle.next_use.specs.Chains.{page_at, low, high, last_with, told_of, Chained, Walked, LeftsFilled}
 use Rattle.next_use.specs.Left.{left, lefts_of}
 
@@ -59,6 +58,18 @@ left_last q c (suc i) trace e h =
 
 pub told_none : (trace : List ℕ) (page : ℕ) → told_of trace 0 page ≡ 0
 told_none trace page = cases (eqb (page_at trace (length trace - 0)) page) (λ e. rw e) (λ e. rw e)
+
+-- what the code answers
+pub told_zero : (trace : List ℕ) (near page : ℕ) → near ≡ 0 → 0 ≡ told_of trace near page
+told_zero trace near page z = rw z (sym (told_none trace page))
+
+pub told_same : (trace : List ℕ) (near page : ℕ) → page_at trace (length trace - near) ≡ page → near ≡ told_of trace near page
+told_same trace near page e = rw (eq-eqb _ _ e)
+
+pub told_other : (trace : List ℕ) (near page : ℕ) → (page_at trace (length trace - near) ≡ page → ⊥) → 0 ≡ told_of trace near page
+told_other trace near page e = rw (ne_eqb _ _ e)
+
+pub ruleset told_rules = (told_zero, told_same, told_other)
 
 told_at : (trace : List ℕ) (t page : ℕ) → t < length trace → told_of trace (length trace - t) page ≡ pick (eqb (page_at trace t) page) (length trace - t) 0
 told_at trace t page h =
@@ -220,7 +231,3 @@ chain_turn i trace heads before n h k =
           (λ e. k.links t (omega (arith, e)))
           (omega arith);
     })
-
--- a table that is clear
-pub cleared : (before after : List ℕ) → after ≡ replicate (length before) 0 → (i : ℕ) → get_or after i 0 ≡ 0
-cleared before after e i = ap (λ (l : List ℕ). get_or l i 0) e ∙ zeros (length before) i

@@ -47,28 +47,15 @@ pub record LeftsFilled (c : ℕ) (trace seen lefts : List ℕ) : Type 0 where
   pub others : (h d : ℕ) → h < 65536 → c ≤ d → d < 65536 → told_of trace (get_or seen h 0) (h * 65536 + d) ≡ 0
   pub lower : (t : ℕ) → t < length trace → low (page_at trace t) < c → RightAt t trace lefts
 
--- The places that are lent for all this
-pub record Tables (trace heads before seen lefts : List ℕ) : Type 0 where
-  pub short : length trace ≤ longest_trace
-  pub halves : length heads ≡ 65536
-  pub places : length before ≡ longest_trace
-  pub table : length seen ≡ 65536
-  pub room : length trace ≤ length lefts
-
 -- Before the chains are made
-pub record Unchained (trace heads before : List ℕ) : Type 0 where
+pub record Unchained (trace heads : List ℕ) : Type 0 where
   pub short : length trace ≤ longest_trace
-  pub halves : length heads ≡ 65536
-  pub places : length before ≡ longest_trace
   pub clear : (c : ℕ) → get_or heads c 0 ≡ 0
 
 -- Before the chain of c is walked
 pub record Walkable (c : ℕ) (trace heads before seen lefts : List ℕ) : Type 0 where
   pub short : length trace ≤ longest_trace
   pub half : c < 65536
-  pub halves : length heads ≡ 65536
-  pub places : length before ≡ longest_trace
-  pub table : length seen ≡ 65536
   pub room : length trace ≤ length lefts
   pub chained : Chained (length trace) trace heads before
   pub filled : LeftsFilled c trace seen lefts

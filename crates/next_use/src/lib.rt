@@ -3,7 +3,7 @@
 
 ghost use Rattle.std.specs.Prelude.{◌≤◌, ◌+◌, ◌≡◌, length, take};
 ghost use Rattle.paging.specs.Refusals.{longest_trace};
-ghost use Rattle.next_use.specs.Chains.{told_of, Chained, LeftsFilled, Tables, Unchained, Walkable};
+ghost use Rattle.next_use.specs.Chains.{told_of, Chained, LeftsFilled, Unchained, Walkable};
 ghost use Rattle.next_use.specs.Left.{lefts_of};
 
 use paging::Sizes;
@@ -13,67 +13,51 @@ const HALVES: usize = 65536;
 
 // Chains the requests by the low half of their pages: heads has one more than the last request of each chain, before for each request
 // one more than the one before it.
-fn chain(trace: &[u32], heads: &mut [u32], before: &mut [u32])
-    requires { Unchained trace.now heads.old before.old }
+fn chain(trace: &[u32], heads: &mut [u32; HALVES], before: &mut [u32; Sizes::TRACE_MAX])
+    requires { Unchained trace.now heads.old }
     ensures { Chained (length trace.now) trace.now heads.new before.new }
 {
-    let mut t = 0;
-    while t < trace.len() {
-        let low = (trace[t] % 65536) as usize;
+    for (t, &page) in trace.iter().enumerate() {
+        let low = page as usize % HALVES;
         before[t] = heads[low];
         heads[low] = (t + 1) as u32;
-        t += 1;
     }
 }
 
-// near, where the near-th request from the end is for this page, else 0.
+// near, where the near-th request from the end is for this page, else 0, which in a list of lefts says that there is none: keys are made of these numbers.
+#[tactic(auto, using(crate::proofs::Chains::told_rules))]
 fn told(trace: &[u32], near: u32, page: u32) -> u32
     requires { near ≤ length trace.now }
     ensures { result ≡ told_of trace.now near page }
 {
-    if near == 0 {
-        return 0;
+    if near > 0 && trace[trace.len() - near as usize] == page {
+        near
+    } else {
+        0
     }
-    if trace[trace.len() - near as usize] == page {
-        return near;
-    }
-    0
 }
 
 // Walks the chain of the low half c from its end. `seen` has, by the high half of a page, how near the request seen last is.
-fn walk(trace: &[u32], heads: &[u32], before: &[u32], c: usize, seen: &mut [u32], lefts: &mut [u32])
+fn walk(
+    trace: &[u32],
+    heads: &[u32; HALVES],
+    before: &[u32; Sizes::TRACE_MAX],
+    c: usize,
+    seen: &mut [u32; HALVES],
+    lefts: &mut [u32],
+)
     requires { Walkable c trace.now heads.now before.now seen.old lefts.old }
     ensures { LeftsFilled (c + 1) trace.now seen.new lefts.new }
 {
+    // Along a chain: where the walk goes on stands in `before`, so no list gives the requests in this order.
     let mut s = heads[c];
-    while 0 < s {
+    while s > 0 {
         let t = (s - 1) as usize;
         let page = trace[t];
-        let high = (page / 65536) as usize;
+        let high = page as usize / HALVES;
         lefts[t] = told(trace, seen[high], page);
         seen[high] = (trace.len() - t) as u32;
         s = before[t];
-    }
-}
-
-// The same for all chains, with the tables lent.
-fn fill_by(
-    trace: &[u32],
-    heads: &mut [u32],
-    before: &mut [u32],
-    seen: &mut [u32],
-    lefts: &mut [u32],
-)
-    requires { Tables trace.now heads.old before.old seen.old lefts.old }
-    ensures { take (length trace.now) lefts.new ≡ lefts_of trace.now }
-{
-    lists::moves::fill_zero(heads);
-    lists::moves::fill_zero(seen);
-    chain(trace, heads, before);
-    let mut c = 0;
-    while c < HALVES {
-        walk(trace, heads, before, c, seen, lefts);
-        c += 1;
     }
 }
 
@@ -85,5 +69,8 @@ pub fn fill_lefts(trace: &[u32], lefts: &mut [u32])
     let mut heads = [0u32; HALVES];
     let mut before = [0u32; Sizes::TRACE_MAX];
     let mut seen = [0u32; HALVES];
-    fill_by(trace, &mut heads, &mut before, &mut seen, lefts);
+    chain(trace, &mut heads, &mut before);
+    for c in 0..HALVES {
+        walk(trace, &heads, &before, c, &mut seen, lefts);
+    }
 }

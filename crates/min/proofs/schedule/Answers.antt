@@ -1,33 +1,20 @@
-use mathlib.Core.Path.{sym, ◌∙◌}
+use mathlib.Core.Path.{◌≡◌, ap, ◌∙◌}
 use borrow.Author.Rules.{rules}
+use Rattle.std.specs.Prelude.{Err}
+use Rattle.std.proofs.lemmas.Result.{err_from_is_err_and}
 use Rattle.min.proofs.Refused.{accepted, schedule_refused, schedule_passes}
 use Rattle.min.proofs.schedule.Goals as goal
 
-pub returns-then-no-ne0 : goal.returns-then-no-ne0
-returns-then-no-ne0 c =
-    let a = c.args.a in
-    let k = c.args.k in
-    let out = c.args.out.now in
-    let trace = c.args.trace.now in
-    let refusal = c.trace_refusal-no in
-    schedule_refused k a refusal.result trace out refusal.ensures c.if-no-ne0.true
+pub returns-in_err-check_trace : goal.returns-in_err-check_trace
+returns-in_err-check_trace c =
+    let r = err_from_is_err_and c.from_residual.result c.from_residual.ensures.1 in
+    let e : c.from_residual.result ≡ Err c.in_err-check_trace.field-0.0 = r.1 ∙ ap Err r.2 in
+    rw e (schedule_refused c.args.k c.args.a c.args.trace.now c.args.out.now _ c.in_err-check_trace.ensures)
 
 pub scheduled-requires : goal.scheduled-requires
 scheduled-requires c =
-    let a = c.args.a in
-    let k = c.args.k in
-    let trace = c.args.trace.now in
-    let refusal = c.trace_refusal-no in
-    let if1 = c.if-no-ne0 in
-    accepted k a trace _ (sym refusal.ensures ∙ if1.false) (search rules)
+    accepted c.args.k c.args.a c.args.trace.now _ c.in_ok-check_trace.ensures (search rules)
 
 pub returns : goal.returns
 returns c =
-    let a = c.args.a in
-    let k = c.args.k in
-    let out = c.args.out.now in
-    let trace = c.args.trace.now in
-    let refusal = c.trace_refusal-no in
-    let if1 = c.if-no-ne0 in
-    let scheduled = c.scheduled in
-    schedule_passes k a refusal.result trace out scheduled.new.out scheduled.result refusal.ensures if1.false scheduled.ensures
+    schedule_passes c.args.k c.args.a c.args.trace.now c.args.out.now c.scheduled.new.out _ c.in_ok-check_trace.ensures c.scheduled.ensures

@@ -2,12 +2,12 @@
 use Rattle.std.specs.Prelude.{ℕ, ◌+◌, ◌≤◌, ◌<◌, List, [], ◌≡◌, length, take, drop}
 use Rattle.lists.specs.Pages.{count}
 use Rattle.paging.specs.Min.{best_count, min_loads}
-use Rattle.paging.specs.Policy.{is_bundled, is_load}
+use Rattle.paging.specs.Policy.{Kind, is_bundled, is_load}
 use Rattle.paging.specs.Refusals.{SizesRight, largest_k, longest_trace}
 use Rattle.wire.specs.Numbers.{placed}
 use Rattle.records.specs.Bytes.{ev_length, entry_bytes, joined}
 use Rattle.next_use.specs.Left.{lefts_of}
-use Rattle.keys.specs.Keys.{InOrder, kind_from, kinds_of, bundle_of, bundles_of}
+use Rattle.keys.specs.Keys.{kinds_of, bundle_of, bundles_of, Room}
 
 -- sizes and a trace that are not refused, with a place for each request's left
 pub record Accepted (k a : ℕ) (trace lefts : List ℕ) : Type 0 where
@@ -21,18 +21,16 @@ pub record PassReady (k a : ℕ) (trace lefts : List ℕ) : Type 0 where
   pub short : length trace ≤ longest_trace
   pub filled : take (length trace) lefts ≡ lefts_of trace
 
--- before request t, with n keys in their places
-pub record Standing (k t n : ℕ) (trace keys : List ℕ) : Type 0 where
+-- before request t, with these keys
+pub record Standing (k t : ℕ) (trace keys : List ℕ) : Type 0 where
   pub within : t ≤ length trace
-  pub held : n ≤ k
-  pub places : length keys ≡ largest_k
-  pub ordered : InOrder (take n keys)
+  pub held : length keys ≤ k
 
 -- before request t, with the bundles and loads so far: what is to come makes up the whole
-pub record Counting (k a t n bundles loads : ℕ) (trace keys : List ℕ) : Type 0 where
-  pub stands : Standing k t n trace keys
-  pub bundled : bundles + count is_bundled (kinds_of k a (drop t trace) (take n keys)) ≡ count is_bundled (kinds_of k a trace [])
-  pub loaded : loads + count is_load (kinds_of k a (drop t trace) (take n keys)) ≡ count is_load (kinds_of k a trace [])
+pub record Counting (k a t bundles loads : ℕ) (trace keys : List ℕ) : Type 0 where
+  pub stands : Standing k t trace keys
+  pub bundled : bundles + count is_bundled (kinds_of k a (drop t trace) keys) ≡ count is_bundled (kinds_of k a trace [])
+  pub loaded : loads + count is_load (kinds_of k a (drop t trace) keys) ≡ count is_load (kinds_of k a trace [])
 
 -- what a whole pass answers, and the lefts that it leaves
 pub record Counted (k a : ℕ) (trace lefts : List ℕ) (bundles loads : ℕ) : Type 0 where
@@ -42,26 +40,23 @@ pub record Counted (k a : ℕ) (trace lefts : List ℕ) (bundles loads : ℕ) : 
 
 -- Writing
 
--- an EV of the pages of the first a keys fits into the rest of the bytes
-pub record EvRoom (a : ℕ) (keys rest : List ℕ) : Type 0 where
-  pub some : 0 < a
-  pub small : a ≤ largest_k
-  pub held : a ≤ length keys
-  pub room : ev_length a ≤ length rest
+-- an EV of the pages of a bundle's keys fits into the rest of the bytes
+pub record EvRoom (bundle rest : List ℕ) : Type 0 where
+  pub some : 0 < length bundle
+  pub small : length bundle ≤ largest_k
+  pub room : ev_length (length bundle) ≤ length rest
 
 -- what a request of this kind writes fits from the offset on
-pub record BundleRoom (kind n a t at : ℕ) (keys out : List ℕ) : Type 0 where
-  pub some : 0 < a
-  pub small : a ≤ largest_k
-  pub held : n ≤ length keys
-  pub full : (kind ≡ 0 → ⊥) → (kind ≡ 1 → ⊥) → a ≤ n
+pub record BundleRoom (kind : Kind) (a t at : ℕ) (keys out : List ℕ) : Type 0 where
+  pub small : length keys ≤ largest_k
+  pub asked : Room kind a keys
   pub early : t < longest_trace
-  pub room : at + length (joined entry_bytes (bundle_of (kind_from kind) a t (take n keys) [])) ≤ length out
+  pub room : at + length (joined entry_bytes (bundle_of kind a t keys [])) ≤ length out
 
 -- before request t, with `at` bytes written: what is to come, put behind them, makes the whole
-pub record Writing (k a t n at from : ℕ) (trace keys out₀ out : List ℕ) : Type 0 where
-  pub stands : Standing k t n trace keys
-  pub room : at + length (joined entry_bytes (bundles_of k a t (drop t trace) (take n keys))) ≤ length out
+pub record Writing (k a t at from : ℕ) (trace keys out₀ out : List ℕ) : Type 0 where
+  pub stands : Standing k t trace keys
+  pub room : at + length (joined entry_bytes (bundles_of k a t (drop t trace) keys)) ≤ length out
   pub same : length out ≡ length out₀
-  pub whole : placed out at (joined entry_bytes (bundles_of k a t (drop t trace) (take n keys)))
+  pub whole : placed out at (joined entry_bytes (bundles_of k a t (drop t trace) keys))
       ≡ placed out₀ from (joined entry_bytes (bundles_of k a 0 trace []))

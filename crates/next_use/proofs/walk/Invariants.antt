@@ -5,8 +5,7 @@ use Rattle.next_use.specs.Chains.{Walked, low, page_at}
 use Rattle.next_use.proofs.walk.Given as goal
 
 abbrev pub invariant-loop-s : goal.invariant-loop-s
-invariant-loop-s l = (length l.seen ≡ length l.initial.seen) ×
-    ((length l.lefts ≡ length l.initial.lefts) × ((l.s ≤ length l.trace) × (((t : ℕ) → l.s ≡ suc t → low (page_at l.trace t) ≡ l.c) × Walked l.c l.s l.trace l.seen l.lefts)))
+invariant-loop-s l = (l.s ≤ length l.trace) × (((t : ℕ) → l.s ≡ suc t → low (page_at l.trace t) ≡ l.c) × Walked l.c l.s l.trace l.seen l.lefts)
 
 abbrev pub decreases-loop-s : goal.decreases-loop-s
 decreases-loop-s l = l.s

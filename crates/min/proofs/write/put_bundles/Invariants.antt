@@ -1,10 +1,5 @@
-use Prim.Native.Nat.{◌-◌}
-use lib.ListN.{length}
 use Rattle.min.specs.inner.Run.{Writing}
 use Rattle.min.proofs.write.put_bundles.Given as goal
 
 abbrev pub invariant-loop-t : goal.invariant-loop-t
-invariant-loop-t l = Writing l.k l.a l.t l.n l.at l.from l.trace l.held l.initial.out l.out
-
-abbrev pub decreases-loop-t : goal.decreases-loop-t
-decreases-loop-t l = length l.trace - l.t
+invariant-loop-t l = Writing l.k l.a l.t l.at l.from l.trace l.held l.initial.out l.out

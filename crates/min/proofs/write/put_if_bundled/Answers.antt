@@ -1,70 +1,28 @@
-use native.Mathlib.Omega.{arith}
-use Rattle.min.proofs.Written.{puts_room, ev_room, puts_some}
+use Prim.Native.Nat.{◌-◌}
+use mathlib.Core.List.{List, map}
+use mathlib.Core.Path.{ap, ◌∙◌}
+use Prim.Native.Nat.{ℕ}
+use lib.ListN.{length, take, drop}
+use Rattle.wire.specs.Numbers.{placed}
+use Rattle.records.specs.Bytes.{ev_length, ev_bytes}
+use Rattle.keys.specs.Keys.{page_of}
+use Rattle.min.proofs.Written.{ev_room, puts_some}
 use Rattle.min.proofs.write.put_if_bundled.Goals as goal
-
-pub overflow_cast-t : goal.overflow_cast-t
-overflow_cast-t c =
-    let pre = c.requires in
-    omega (arith, pre.early)
-
-pub slice_bounds-put_bundle-count : goal.slice_bounds-put_bundle-count
-slice_bounds-put_bundle-count c =
-    let a = c.args.a in
-    let offset = c.args.at in
-    let held = c.args.held.now in
-    let kind = c.args.kind in
-    let n = c.args.n in
-    let out = c.args.out.now in
-    let t = c.args.t in
-    let pre = c.requires in
-    omega (arith, puts_room kind n a t offset held out pre (λ z. omega arith) (λ z. omega arith))
-
-pub slice_bounds-put_bundle-start : goal.slice_bounds-put_bundle-start
-slice_bounds-put_bundle-start c =
-    let a = c.args.a in
-    let offset = c.args.at in
-    let held = c.args.held.now in
-    let kind = c.args.kind in
-    let n = c.args.n in
-    let out = c.args.out.now in
-    let t = c.args.t in
-    let pre = c.requires in
-    omega (arith, puts_room kind n a t offset held out pre (λ z. omega arith) (λ z. omega arith))
 
 pub put_bundle-size-requires : goal.put_bundle-size-requires
 put_bundle-size-requires c =
-    let a = c.args.a in
-    let offset = c.args.at in
-    let held = c.args.held.now in
-    let kind = c.args.kind in
-    let n = c.args.n in
-    let out = c.args.out.now in
-    let t = c.args.t in
-    let pre = c.requires in
-    ev_room kind n a t offset held out pre (λ z. omega arith) (λ z. omega arith)
+    let room = rw c.in-LoadAfterBundle.is at c.requires in
+    rw c.keys.ensures (ev_room c.args.a c.args.t c.args.at c.args.held.now c.args.out.now room)
 
-pub overflow_add-result : goal.overflow_add-result
-overflow_add-result c =
+pub returns-in-LoadAfterBundle : goal.returns-in-LoadAfterBundle
+returns-in-LoadAfterBundle c =
     let a = c.args.a in
-    let offset = c.args.at in
-    let held = c.args.held.now in
-    let kind = c.args.kind in
-    let n = c.args.n in
-    let out = c.args.out.now in
     let t = c.args.t in
-    let pre = c.requires in
-    let put-bundle = c.put_bundle-size in
-    omega (arith, put-bundle.ensures.0, puts_room kind n a t offset held out pre (λ z. omega arith) (λ z. omega arith))
-
-pub returns : goal.returns
-returns c =
-    let a = c.args.a in
     let offset = c.args.at in
-    let held = c.args.held.now in
-    let kind = c.args.kind in
-    let n = c.args.n in
     let out = c.args.out.now in
-    let t = c.args.t in
-    let pre = c.requires in
-    let put-bundle = c.put_bundle-size in
-    puts_some kind n a t offset held out pre (λ z. omega arith) (λ z. omega arith) put-bundle.result put-bundle.new.rest put-bundle.ensures.0 put-bundle.ensures.1
+    let room = rw c.in-LoadAfterBundle.is at c.requires in
+    let put = c.put_bundle-size in
+    rw c.in-LoadAfterBundle.is
+    (puts_some a t offset c.args.held.now out room put.result put.new.rest
+    (put.ensures.0 ∙ ap (λ (keys : List ℕ). ev_length (length (take a keys))) c.keys.ensures)
+    (put.ensures.1 ∙ ap (λ (keys : List ℕ). placed (take (length out - offset) (drop offset out)) 0 (ev_bytes t (map page_of (take a keys)))) c.keys.ensures))

@@ -4,30 +4,12 @@ use Rattle.min.proofs.Refused.{scheduled_whole}
 use Rattle.min.proofs.Written.{best_few, schedule_length_is, evs_fit, schedule_placed}
 use Rattle.min.proofs.write.scheduled.Goals as goal
 
-pub counted-all-requires : goal.counted-all-requires
-counted-all-requires c =
-    let pre = c.requires in
-    pre
-
 pub schedule_length-size-requires : goal.schedule_length-size-requires
 schedule_length-size-requires c =
-    let a = c.args.a in
-    let k = c.args.k in
-    let trace = c.args.trace.now in
     let pre = c.requires in
     let counted = c.counted-all in
-    let pages = at_below {n = 4294967296} trace (λ i h. omega (arith, c.type_inv.trace i)) in
-    (omega (arith, pre.sizes.a_high, pre.sizes.k_high), omega (arith, counted.ensures.best, best_few k a pages, pre.short))
-
-pub overflow_cast-k : goal.overflow_cast-k
-overflow_cast-k c =
-    let pre = c.requires in
-    omega (arith, pre.sizes.k_high)
-
-pub overflow_cast-a : goal.overflow_cast-a
-overflow_cast-a c =
-    let pre = c.requires in
-    omega (arith, pre.sizes.k_high, pre.sizes.a_high)
+    let pages = at_below {n = 4294967296} c.args.trace.now (λ i h. omega (arith, c.type_inv.trace i)) in
+    (omega (arith, pre.sizes.a_high, pre.sizes.k_high), omega (arith, counted.ensures.best, best_few c.args.k c.args.a pages, pre.short))
 
 pub put_bundles-requires : goal.put_bundles-requires
 put_bundles-requires c =
