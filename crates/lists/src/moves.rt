@@ -18,7 +18,7 @@ pub fn drop_first(pages: &mut [u32], n: usize)
 {
     let out = n.min(pages.len());
     let left = pages.len() - out;
-    pages.rotate_left(out);
+    pages.copy_within(out.., 0);
     fill_zero(&mut pages[left..]);
 }
 
