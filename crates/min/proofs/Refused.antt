@@ -1,8 +1,9 @@
 -- Refusals 1, 2 and 3: the first condition that holds decides, and what is known where none holds.
 use Rattle.std.specs.Prelude.{Ok, Err}
+use Rattle.paging.proofs.Numbers.{number_above}
 use Rattle.paging.specs.Numbers.{number_of}
 use Rattle.paging.specs.declared.reasons.Refusal.{Refusal}
-use Rattle.paging.specs.declared.reasons.Refusal.TheVariants.{BufferSize, BundleSize, TraceTooLong, WrongMark, CutShort, WrongRecord, TooManyHeld, TooLittleRoom, IllFormed, TableFull, PageTwice, CounterFull, EmptyRun}
+use Rattle.paging.specs.declared.reasons.Refusal.TheVariants.{TooLittleRoom}
 use Prim.Native.Nat.{ℕ, zero, suc, ◌≤◌, ◌<◌}
 use native.Mathlib.Omega.{arith}
 use mathlib.Core.List.{List, ◌++◌}
@@ -22,21 +23,6 @@ pub accepted : (k a : ℕ) (trace lefts : List ℕ) → 0 ≡ trace_refusal k a 
 accepted k a trace lefts e h =
     let right = trace_right k a trace 0 (sym e) in
     record { sizes = right.0; short = right.1; room = omega (arith, right.1) }
-
-number_above : (reason : Refusal) → number_of reason ≡ 0 → ⊥
-number_above BufferSize z = absurd (omega arith)
-number_above BundleSize z = absurd (omega arith)
-number_above TraceTooLong z = absurd (omega arith)
-number_above WrongMark z = absurd (omega arith)
-number_above CutShort z = absurd (omega arith)
-number_above WrongRecord z = absurd (omega arith)
-number_above TooManyHeld z = absurd (omega arith)
-number_above TooLittleRoom z = absurd (omega arith)
-number_above IllFormed z = absurd (omega arith)
-number_above TableFull z = absurd (omega arith)
-number_above PageTwice z = absurd (omega arith)
-number_above CounterFull z = absurd (omega arith)
-number_above EmptyRun z = absurd (omega arith)
 
 counts_number : (n k a : ℕ) (trace : List ℕ) → (n ≡ 0 → ⊥) → record { refusal = n; bundles = 0; loads = 0 } ≡ counts_by n k a trace
 counts_number zero k a trace z = absurd (z refl)

@@ -19,8 +19,9 @@ use Rattle.paging.specs.Schedule.{Entry}
 use Rattle.wire.specs.Numbers.{placed}
 use Rattle.wire.proofs.Numbers.{length_placed, placed_none, placed_join}
 use Rattle.records.specs.Bytes.{ka_bytes, ev_bytes, entry_bytes, joined, ev_length, schedule_bytes}
-use Rattle.records.specs.Writing.{put_length, put_bytes, pages_refused}
-use Rattle.records.proofs.Lengths.{length_ev_bytes}
+use Rattle.records.specs.Writing.{some_length, put_length, put_bytes, pages_refused}
+use Rattle.std.specs.Prelude.{Option, IsSome}
+use Rattle.records.proofs.Lengths.{some_length_of, length_ev_bytes}
 use Rattle.records.proofs.Writing.{pages_fine}
 use Rattle.keys.specs.Keys.{page_of, key, kind_in, serve_keys, bundle_of, bundles_of}
 use Rattle.keys.proofs.Order.{Pages}
@@ -56,6 +57,15 @@ put_ev t a pages rest e p s h =
     let l : length (ev_bytes t pages) ≡ ev_length a = length_ev_bytes t pages ∙ ap ev_length e in
     let g = le-ltb (length rest) (length (ev_bytes t pages)) (omega arith) in
     (rw (f, g) l, rw (f, g))
+
+-- a length above 0 is answered
+pub some_put : (o : Option ℕ) (n : ℕ) → o ≡ some_length n → 0 < n → IsSome o
+some_put o n e h = rw (e ∙ sym (some_length_of n h)) refl
+
+pub put_bundle_long : (t : ℕ) (pages bundle rest : List ℕ) → EvRoom bundle rest → pages ≡ map page_of bundle
+    → put_length (pages_refused (length pages)) (ev_bytes t pages) rest ≡ ev_length (length bundle)
+put_bundle_long t pages bundle rest room e =
+    (put_ev t (length bundle) pages rest (ap length e ∙ length-map bundle page_of) room.some room.small room.room).0
 
 pub put_bundle_is : (t r : ℕ) (pages bundle rest rest' : List ℕ) → EvRoom bundle rest → pages ≡ map page_of bundle
     → r ≡ put_length (pages_refused (length pages)) (ev_bytes t pages) rest
@@ -104,11 +114,11 @@ module _ (a t at : ℕ) (keys out : List ℕ) (r : BundleRoom bundled a t at key
   bundle_length : length (take a keys) ≡ a
   bundle_length = length-take-le a keys r.asked.1
 
-  some_length : length (ev_bytes t (map page_of (take a keys))) ≡ ev_length a
-  some_length = length_ev_bytes t (map page_of (take a keys)) ∙ ap ev_length (length-map (take a keys) page_of ∙ bundle_length)
+  bundle_bytes : length (ev_bytes t (map page_of (take a keys))) ≡ ev_length a
+  bundle_bytes = length_ev_bytes t (map page_of (take a keys)) ∙ ap ev_length (length-map (take a keys) page_of ∙ bundle_length)
 
   pub puts_room : at + ev_length a ≤ length out
-  puts_room = omega (arith, some_length, ap length (append-nil (ev_bytes t (map page_of (take a keys)))), r.room)
+  puts_room = omega (arith, bundle_bytes, ap length (append-nil (ev_bytes t (map page_of (take a keys)))), r.room)
 
   pub ev_room : EvRoom (take a keys) (take (length out - at) (drop at out))
   ev_room =
@@ -126,7 +136,7 @@ module _ (a t at : ℕ) (keys out : List ℕ) (r : BundleRoom bundled a t at key
   puts_some size rest s p =
       let b = ev_bytes t (map page_of (take a keys)) in
       let e : joined entry_bytes (bundle_of bundled a t keys []) ≡ b = append-nil b in
-      (omega (arith, some_length, s, bundle_length, ap length e), rw p (back_placed out at b) ∙ ap (placed out at) (sym e))
+      (omega (arith, bundle_bytes, s, bundle_length, ap length e), rw p (back_placed out at b) ∙ ap (placed out at) (sym e))
 
 -- All requests
 

@@ -30,7 +30,7 @@ fn put_bundle(bundle: &[u64], t: u32, rest: &mut [u8]) -> usize
 {
     let mut pages = [0u32; Sizes::K_MAX as usize];
     copy_pages(bundle, &mut pages);
-    records::put::ev(rest, t, &pages[..bundle.len()])
+    records::put::ev(rest, t, &pages[..bundle.len()]).unwrap()
 }
 
 // The bundle's EV from an offset on, where a request was a load after a bundle; answers the offset behind it.
@@ -74,7 +74,8 @@ fn schedule_length(a: u32, bundles: u32) -> usize
     requires { (a ≤ largest_k) × (bundles ≤ longest_trace) }
     ensures { result ≡ 6 + bundles * ev_length a }
 {
-    records::length::KA + (bundles as usize) * records::length::ev_length(a as usize)
+    let one = records::length::ev_length(a as usize).unwrap();
+    records::length::KA + bundles as usize * one
 }
 
 // The call for sizes and a trace that are not refused, with places lent for the lefts. Whether the bytes suffice is judged before the
@@ -96,7 +97,7 @@ pub(crate) fn scheduled(
     if out.len() < size {
         return Err(Refusal::TooLittleRoom);
     }
-    let from = records::put::ka(out, k as u16, a as u16);
+    let from = records::put::ka(out, k as u16, a as u16).unwrap();
     put_bundles(k as usize, a as usize, trace, lefts, out, from);
     Ok(Scheduled {
         bundles: all.bundles,

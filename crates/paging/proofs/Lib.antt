@@ -1,6 +1,7 @@
 pub mod Examples
 pub mod Runs
 pub mod Refusals
+pub mod Numbers
 pub mod Table
 pub mod Rules
 pub mod Rows

@@ -14,9 +14,9 @@ use Rattle.lists.proofs.Choice.{tests, and_l, and_r, and_false_l, and_false_r, o
 use Rattle.paging.specs.Refusals.{refuse, sizes_refusal, trace_refusal}
 use Rattle.paging.proofs.Refusals.{zero_pass, sizes_pass, sizes_fall, sizes_rest, trace_right}
 use Rattle.paging.specs.declared.Keeping.{Keeping}
+use Rattle.paging.proofs.Numbers.{number_above}
 use Rattle.paging.specs.Numbers.{number_of}
 use Rattle.paging.specs.declared.reasons.Refusal.{Refusal}
-use Rattle.paging.specs.declared.reasons.Refusal.TheVariants.{BufferSize, BundleSize, TraceTooLong, WrongMark, CutShort, WrongRecord, TooManyHeld, TooLittleRoom, IllFormed, TableFull, PageTwice, CounterFull, EmptyRun}
 use Rattle.queue.specs.Answers.{ReplyAnswer, accepted, totals_answer}
 use Rattle.queue.specs.Calls.{well_formed, run_refusal, request_refusal, Answered, Previewed, totals_of}
 use Rattle.queue.specs.Serving.{cache_served}
@@ -28,21 +28,6 @@ use Rattle.queue.specs.inner.Cases.{found_in, cache_for}
 use Rattle.queue.specs.inner.Telling.{Told}
 use Rattle.queue.specs.inner.Ready.{RequestReady, TraceReady}
 use Rattle.queue.proofs.Served.{Tells, settled}
-
-number_above : (reason : Refusal) → number_of reason ≡ 0 → ⊥
-number_above BufferSize z = absurd (omega arith)
-number_above BundleSize z = absurd (omega arith)
-number_above TraceTooLong z = absurd (omega arith)
-number_above WrongMark z = absurd (omega arith)
-number_above CutShort z = absurd (omega arith)
-number_above WrongRecord z = absurd (omega arith)
-number_above TooManyHeld z = absurd (omega arith)
-number_above TooLittleRoom z = absurd (omega arith)
-number_above IllFormed z = absurd (omega arith)
-number_above TableFull z = absurd (omega arith)
-number_above PageTwice z = absurd (omega arith)
-number_above CounterFull z = absurd (omega arith)
-number_above EmptyRun z = absurd (omega arith)
 
 module _ (run : Run) (count : ℕ) (cache evicted : List ℕ) where
   -- no refusal
