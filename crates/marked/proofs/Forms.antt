@@ -7,11 +7,11 @@ use mathlib.Core.List.{List, [], ◌∷◌}
 use mathlib.Core.Path.{◌≡◌, refl, sym, ◌∙◌}
 use lib.Dec.{leb, ltb}
 use lib.ListN.{length, take, get_or}
+use lib.Seq.{take-suc}
+use mir.Val.{bool_byte}
 use Rattle.lists.specs.Choice.{◌and◌}
-use Rattle.lists.specs.Pages.{count}
-use Rattle.std.specs.List.{count_by}
-use Rattle.std.proofs.lemmas.List.Recursion.{is_count_by}
-use Rattle.lists.proofs.Choice.{cases}
+use Rattle.lists.specs.Pages.{bit, count}
+use Rattle.lists.proofs.Pages.{count_snoc}
 use Rattle.marking.specs.Lists.{rising_behind, rising, all_marks}
 
 and_is : (a b : Bool) → a && b ≡ a and b
@@ -64,7 +64,15 @@ pub marks_turn : (xs : List ℕ) (i : ℕ) (fine : Bool) → i < length xs → f
     → fine && leb (get_or xs i 0) 1 ≡ all_marks (take (i + 1) xs)
 marks_turn xs i fine h e = rw (add-one i, e) (and_is (all_marks (take i xs)) (leb (get_or xs i 0) 1) ∙ sym (all_turn xs i h))
 
--- Entries that pass a test, counted as the library counts them
+-- Pages below a page
 
-pub count_is : (f : ℕ → Bool) (xs : List ℕ) → count_by f xs ≡ count f xs
-count_is f xs = sym (is_count_by (count f) f refl (λ y ys. cases (f y) (λ e. rw e (omega arith)) (λ e. rw e (omega arith))) xs)
+byte_bit : (b : Bool) → bool_byte b ≡ bit b
+byte_bit true = refl
+byte_bit false = refl
+
+pub below_turn : (p : ℕ) (xs : List ℕ) (i n : ℕ) → i < length xs → n ≡ count (λ q. ltb q p) (take i xs)
+    → n + bool_byte (ltb (get_or xs i 0) p) ≡ count (λ q. ltb q p) (take (i + 1) xs)
+below_turn p xs i n h e =
+    let s : count (λ q. ltb q p) (take (i + 1) xs) ≡ count (λ q. ltb q p) (take i xs) + bit (ltb (get_or xs i 0) p) =
+    rw (add-one i, take-suc xs i 0 h) (count_snoc (λ q. ltb q p) (take i xs) (get_or xs i 0)) in
+    omega (arith, byte_bit (ltb (get_or xs i 0) p))
