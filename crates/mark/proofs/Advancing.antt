@@ -6,6 +6,7 @@ use mathlib.Core.List.{List}
 use mathlib.Core.Path.{◌≡◌, refl, sym, ap, ◌∙◌}
 use lib.Dec.{eqb, leb, ltb}
 use lib.ListN.{length, take, drop, get_or}
+use Rattle.std.proofs.Common.{Option, Some, None, is_none}
 use Rattle.lists.specs.Choice.{pick, ◌and◌}
 use Rattle.lists.specs.Places.{place}
 use Rattle.lists.specs.Sorting.{Row}
@@ -15,7 +16,7 @@ use Rattle.paging.specs.Rows.{rows_of, numbers_of, pages_of, table_of}
 use Rattle.paging.specs.Table.{number_in, rule_in, rows_after}
 use Rattle.paging.proofs.Rows.{pages_back, numbers_back}
 use Rattle.table.specs.Filling.{TableFilled}
-use Rattle.table.specs.Serving.{rule_of}
+use Rattle.table.specs.Serving.{rule_of, DoneBy}
 use Rattle.table.specs.declared.Stepped as table_stepped
 use Rattle.table.proofs.Serving.{used_rows_lem, used_rule}
 use Rattle.timed.specs.Timed.{TimedReady, TimedTo}
@@ -113,22 +114,19 @@ module _ (k a p : ℕ) (point : TablePoint) (x : Table) (R : TableReady k a poin
 
   -- The table moved on
 
-  module _ (t : ℕ) (numbers' pages' times' : List ℕ) (moved : table_stepped.Stepped)
-      (told : TimedTo k a point.s p t point.used x.numbers x.pages x.times numbers' pages' times' moved) where
+  module _ (t : ℕ) (numbers' pages' times' : List ℕ) (r : Option table_stepped.Stepped)
+      (told : TimedTo k a point.s p t point.used x.numbers x.pages x.times numbers' pages' times' r) where
     same_rows : rows_after k a point.s p (rows_used x) ≡ rows_after k a point.s p (rows_of x.numbers x.pages)
     same_rows = used_rows_lem k a point.s p (rows_of x.numbers x.pages)
 
-    pub full_is : moved.full ≡ ltb (length x.pages) (length (rows_after k a point.s p (rows_used x)))
+    pub full_is : is_none r ≡ ltb (length x.pages) (length (rows_after k a point.s p (rows_used x)))
     full_is = told.table.full_told ∙ ap (λ (l : List Row). ltb (length x.pages) (length l)) (sym same_rows)
-
-    pub rule_is : rule_of moved.rule ≡ rule_in k point.s p (rows_used x)
-    rule_is = told.table.rule_told ∙ sym (used_rule k point.s p (rows_of x.numbers x.pages))
 
     even' : length pages' ≡ length numbers'
     even' = told.pages_length ∙ sym told.numbers_length
 
     -- a full table is as it was
-    module _ (full : moved.full ≡ true) where
+    module _ (full : is_none r ≡ true) where
       kept_rows : rows_of numbers' pages' ≡ rows_of x.numbers x.pages
       kept_rows = told.table.rows_told ∙ rw full refl
 
@@ -142,7 +140,7 @@ module _ (k a p : ℕ) (point : TablePoint) (x : Table) (R : TableReady k a poin
       times_kept = told.times_told ∙ rw full refl
 
     -- else it holds the rows after the request
-    module _ (served : moved.full ≡ false) where
+    module _ (served : is_none r ≡ false) where
       rows_are : rows_of numbers' pages' ≡ table_of (length x.pages) (rows_after k a point.s p (rows_used x))
       rows_are = told.table.rows_told ∙ rw (served, same_rows) refl
 
@@ -152,12 +150,6 @@ module _ (k a p : ℕ) (point : TablePoint) (x : Table) (R : TableReady k a poin
       pub numbers_are : numbers' ≡ numbers_of (table_of (length x.pages) (rows_after k a point.s p (rows_used x)))
       numbers_are = sym (numbers_back numbers' pages' even') ∙ ap numbers_of rows_are
 
-      pub top_is : moved.s ≡ top_after (rule_in k point.s p (rows_used x)) k a point.s
-      top_is = told.table.top_told ∙ rw (served, used_rule k point.s p (rows_of x.numbers x.pages)) refl
-
-      pub used_is : moved.used ≡ length (rows_after k a point.s p (rows_used x))
-      used_is = told.table.used_told served ∙ ap (λ (l : List Row). length l) (sym same_rows)
-
       pub times_are : times'
           ≡ times_of (length x.pages) (rows_after k a point.s p (rows_used x))
           (times_after t p (rows_used x) (rows_after k a point.s p (rows_used x)) (take (length (rows_used x)) x.times))
@@ -166,6 +158,17 @@ module _ (k a p : ℕ) (point : TablePoint) (x : Table) (R : TableReady k a poin
           let same = times_take t p (rows_used x) (rows_after k a point.s p (rows_used x)) x.times (length (rows_used x)) (length x.pages - point.used)
           (ap (λ (n : ℕ). drop n x.times) (sym R.counted) ∙ R.blank) in
           told.times_told ∙ rw (served, first, ← same_rows, same) refl
+
+  -- what a step that was done answers
+  module _ (moved : table_stepped.Stepped) (done : DoneBy k a point.s p (rows_of x.numbers x.pages) moved) where
+    pub rule_is : rule_of moved.rule ≡ rule_in k point.s p (rows_used x)
+    rule_is = done.rule_told ∙ sym (used_rule k point.s p (rows_of x.numbers x.pages))
+
+    pub top_is : moved.s ≡ top_after (rule_in k point.s p (rows_used x)) k a point.s
+    top_is = done.top_told ∙ rw (used_rule k point.s p (rows_of x.numbers x.pages)) refl
+
+    pub used_is : moved.used ≡ length (rows_after k a point.s p (rows_used x))
+    used_is = done.used_told ∙ ap (λ (l : List Row). length l) (sym (used_rows_lem k a point.s p (rows_of x.numbers x.pages)))
 
 -- As the code finds it
 
@@ -178,36 +181,45 @@ module _ (k a p : ℕ) (point : TablePoint) (x : Table) (R : TableReady k a poin
   pub rank_fits : t0 ≤ t
   rank_fits = t0_low k a p point x R at found shown shown_is t time t0 t0-told
 
-  module _ (rank : ℕ) (rank-told : rank ≡ 9 * t - t0) (numbers' pages' times' : List ℕ) (moved : table_stepped.Stepped)
-      (told : TimedTo k a point.s p t point.used x.numbers x.pages x.times numbers' pages' times' moved)
-      (joined : Bool) (joined_is : joined ≡ is_join (rule_of moved.rule)) (after : ℕ)
-      (after-told : after ≡ pick joined 1 (pick shown point.revealed (point.revealed + 1))) where
-    kept : moved.full ≡ true → table_with pages' numbers' times' ≡ x
-    kept full =
-        λ i. table_with (pages_kept k a p point x R t numbers' pages' times' moved told full i)
-        (numbers_kept k a p point x R t numbers' pages' times' moved told full i)
-        (times_kept k a p point x R t numbers' pages' times' moved told full i)
-
-    served : moved.full ≡ false → table_with pages' numbers' times' ≡ table_served k a p point x
-    served full =
-        let times_is : times' ≡ (table_served k a p point x).times =
-        times_are k a p point x R t numbers' pages' times' moved told full ∙ rw (time_is k a p point x R at found shown shown_is t time) refl in
-        λ i. table_with (pages_are k a p point x R t numbers' pages' times' moved told full i)
-        (numbers_are k a p point x R t numbers' pages' times' moved told full i) (times_is i)
-
-    pub advanced : AdvancedTo k a p point x (table_with pages' numbers' times')
-        (record { full = moved.full; rule = moved.rule; after = record { s = moved.s; t = t; revealed = after; used = moved.used }; priority = rank })
-    advanced =
-        let rule = rule_is k a p point x R t numbers' pages' times' moved told in
+  module _ (rank : ℕ) (rank-told : rank ≡ 9 * t - t0) (numbers' pages' times' : List ℕ) where
+    pub advanced_none : TimedTo k a point.s p t point.used x.numbers x.pages x.times numbers' pages' times' None
+        → AdvancedTo k a p point x (table_with pages' numbers' times') None
+    advanced_none told =
         record {
-          full_told = full_is k a p point x R t numbers' pages' times' moved told;
-          table_told = cases moved.full (λ e. rw e (kept e)) (λ e. rw e (served e));
-          rule_told = rule;
-          point_told = λ e i. record {
-            s = top_is k a p point x R t numbers' pages' times' moved told e i;
-            t = time_is k a p point x R at found shown shown_is t time i;
-            revealed = shown_next k a p point x R joined shown after (joined_is ∙ ap is_join rule) shown_is after-told i;
-            used = used_is k a p point x R t numbers' pages' times' moved told e i;
-          };
-          priority_told = rank_is k a p point x R at found shown shown_is t time t0 t0-told rank rank-told;
+          full_told = full_is k a p point x R t numbers' pages' times' None told;
+          table_told = λ i. table_with (pages_kept k a p point x R t numbers' pages' times' None told refl i)
+              (numbers_kept k a p point x R t numbers' pages' times' None told refl i)
+              (times_kept k a p point x R t numbers' pages' times' None told refl i);
+          done_told = tt;
         }
+
+    module _ (moved : table_stepped.Stepped)
+        (told : TimedTo k a point.s p t point.used x.numbers x.pages x.times numbers' pages' times' (Some moved))
+        (joined : Bool) (joined_is : joined ≡ is_join (rule_of moved.rule)) (after : ℕ)
+        (after-told : after ≡ pick joined 1 (pick shown point.revealed (point.revealed + 1))) where
+      served : table_with pages' numbers' times' ≡ table_served k a p point x
+      served =
+          let times_is : times' ≡ (table_served k a p point x).times =
+          times_are k a p point x R t numbers' pages' times' (Some moved) told refl ∙ rw (time_is k a p point x R at found shown shown_is t time) refl in
+          λ i. table_with (pages_are k a p point x R t numbers' pages' times' (Some moved) told refl i)
+          (numbers_are k a p point x R t numbers' pages' times' (Some moved) told refl i) (times_is i)
+
+      pub advanced : AdvancedTo k a p point x (table_with pages' numbers' times')
+          (Some (record { rule = moved.rule; after = record { s = moved.s; t = t; revealed = after; used = moved.used }; priority = rank }))
+      advanced =
+          let done = told.table.done_told in
+          let rule = rule_is k a p point x R moved done in
+          record {
+            full_told = full_is k a p point x R t numbers' pages' times' (Some moved) told;
+            table_told = served;
+            done_told = record {
+              rule_told = rule;
+              point_told = λ i. record {
+                s = top_is k a p point x R moved done i;
+                t = time_is k a p point x R at found shown shown_is t time i;
+                revealed = shown_next k a p point x R joined shown after (joined_is ∙ ap is_join rule) shown_is after-told i;
+                used = used_is k a p point x R moved done i;
+              };
+              priority_told = rank_is k a p point x R at found shown shown_is t time t0 t0-told rank rank-told;
+            };
+          }

@@ -9,19 +9,23 @@ use lib.Dec.{eqb}
 use lib.ListN.{length, drop, get_or, replicate, length-replicate, drop_of_length-le}
 use lib.Seq.{drop-cons}
 use borrow.Author.Tests.{eqb-true, eq-eqb, ne_eqb, not-false}
+use Rattle.std.proofs.Common.{Option, Some, None, is_none, Ok, Err}
 use Rattle.lists.specs.Choice.{◌and◌, ◌or◌}
 use Rattle.lists.proofs.Choice.{and_i, and_l, and_r, or_l, or_r, or_none, or_none_l, or_none_r}
 use Rattle.paging.specs.Refusals.{refuse, trace_refusal, SizesRight, longest_trace}
 use Rattle.paging.proofs.Refusals.{zero_pass, Chain, chain_end, chain_refuse, chain_behind, chain_fall, trace_chain, trace_right, trace_fall, trace_pass, trace_taken}
+use Rattle.paging.specs.Numbers.{number_of}
 use Rattle.paging.specs.Table.{nothing_yet}
+use Rattle.paging.specs.declared.reasons.Refusal.{Refusal}
+use Rattle.paging.specs.declared.reasons.Refusal.TheVariants.{TableFull}
 use Rattle.layers.specs.Traces.{overflows}
 use Rattle.layers.proofs.Steps.{no_overflow}
 use Rattle.marking.specs.Marking.{mark_bundles, mark_loads}
 use Rattle.marking.specs.Rdm.{rdm}
-use Rattle.mark.specs.Traces.{Table, table_with, all_zero, early_refusal, over_refusal, refused_totals, totals_of, table_over, OverTrace}
+use Rattle.mark.specs.Traces.{Table, table_with, all_zero, early_refusal, over_refusal, totals_of, table_over, OverTrace}
 use Rattle.mark.specs.declared.MarkTotals.{MarkTotals}
-use Rattle.mark.specs.declared.trace.Served.{Served}
-use Rattle.mark.specs.inner.Over.{TraceReady, ServedOver}
+use Rattle.mark.specs.inner.Over.{TraceReady, AllServed, ServedOver}
+use Rattle.layers.proofs.Refusing.{number_above}
 
 -- The look
 
@@ -102,47 +106,49 @@ module _ (k a : ℕ) (trace : List ℕ) (x : Table) where
 
   -- as the code judges
 
-  module _ (number : ℕ) (e : number ≡ trace_refusal k a trace 0) where
-    pub early_trace : (number ≡ 0 → ⊥) → number ≡ early_refusal k a trace x 0
+  pub early_trace : (number : ℕ) → number ≡ trace_refusal k a trace 0 → (number ≡ 0 → ⊥) → number ≡ early_refusal k a trace x 0
+  unfolding early_refusal
+  early_trace number e n = sym (trace_fall k a trace _ number e n)
+
+  module _ (z : 0 ≡ trace_refusal k a trace 0) where
+    pub early_numbers : (length x.numbers ≡ length x.pages → ⊥) → 8 ≡ early_refusal k a trace x 0
     unfolding early_refusal
-    early_trace n = sym (trace_fall k a trace _ number e n)
+    early_numbers n =
+        let odd = or_l (not (eqb (length x.numbers) (length x.pages))) (not (eqb (length x.times) (length x.pages))) (ap not (ne_eqb _ _ n)) in
+        sym (trace_pass k a trace _ (sym z) ∙ rw odd refl)
 
-    module _ (z : number ≡ 0) where
-      pub early_numbers : (length x.numbers ≡ length x.pages → ⊥) → 8 ≡ early_refusal k a trace x 0
+    pub early_times : (length x.times ≡ length x.pages → ⊥) → 8 ≡ early_refusal k a trace x 0
+    unfolding early_refusal
+    early_times n =
+        let odd = or_r (not (eqb (length x.numbers) (length x.pages))) (not (eqb (length x.times) (length x.pages))) (ap not (ne_eqb _ _ n)) in
+        sym (trace_pass k a trace _ (sym z) ∙ rw odd refl)
+
+    module _ (en : length x.numbers ≡ length x.pages) (et : length x.times ≡ length x.pages) where
+      pub early_used : (all_zero x.pages and all_zero x.numbers and all_zero x.times) ≡ false → 9 ≡ early_refusal k a trace x 0
       unfolding early_refusal
-      early_numbers n =
-          let odd = or_l (not (eqb (length x.numbers) (length x.pages))) (not (eqb (length x.times) (length x.pages))) (ap not (ne_eqb _ _ n)) in
-          sym (trace_pass k a trace _ (sym e ∙ z) ∙ rw odd refl)
+      early_used f =
+          let even = or_none _ _ (ap not (eq-eqb _ _ en)) (ap not (eq-eqb _ _ et)) in
+          sym (trace_pass k a trace _ (sym z) ∙ rw (even, f) refl)
 
-      pub early_times : (length x.times ≡ length x.pages → ⊥) → 8 ≡ early_refusal k a trace x 0
+      pub early_none : all_zero x.pages ≡ true → all_zero x.numbers ≡ true → all_zero x.times ≡ true → 0 ≡ early_refusal k a trace x 0
       unfolding early_refusal
-      early_times n =
-          let odd = or_r (not (eqb (length x.numbers) (length x.pages))) (not (eqb (length x.times) (length x.pages))) (ap not (ne_eqb _ _ n)) in
-          sym (trace_pass k a trace _ (sym e ∙ z) ∙ rw odd refl)
-
-      module _ (en : length x.numbers ≡ length x.pages) (et : length x.times ≡ length x.pages) where
-        pub early_used : (all_zero x.pages and all_zero x.numbers and all_zero x.times) ≡ false → 9 ≡ early_refusal k a trace x 0
-        unfolding early_refusal
-        early_used f =
-            let even = or_none _ _ (ap not (eq-eqb _ _ en)) (ap not (eq-eqb _ _ et)) in
-            sym (trace_pass k a trace _ (sym e ∙ z) ∙ rw (even, f) refl)
-
-        pub early_none : all_zero x.pages ≡ true → all_zero x.numbers ≡ true → all_zero x.times ≡ true → 0 ≡ early_refusal k a trace x 0
-        unfolding early_refusal
-        early_none p n t =
-            let even = or_none _ _ (ap not (eq-eqb _ _ en)) (ap not (eq-eqb _ _ et)) in
-            let zeros = and_i _ _ p (and_i _ _ n t) in
-            sym (trace_pass k a trace _ (sym e ∙ z) ∙ rw (even, zeros) refl)
+      early_none p n t =
+          let even = or_none _ _ (ap not (eq-eqb _ _ en)) (ap not (eq-eqb _ _ et)) in
+          let zeros = and_i _ _ p (and_i _ _ n t) in
+          sym (trace_pass k a trace _ (sym z) ∙ rw (even, zeros) refl)
 
 -- What the call answers and leaves
 
 module _ (k a : ℕ) (trace : List ℕ) (x : Table) where
-  pub refused_over : (number : ℕ) → over_refusal k a trace x ≡ number → (number ≡ 0 → ⊥) → OverTrace k a trace x (refused_totals number) x
+  pub refused_over : (reason : Refusal) → over_refusal k a trace x ≡ number_of reason → OverTrace k a trace x (Err reason) x
   unfolding totals_of table_over
-  refused_over number e n = (rw (e, ne_eqb number 0 n) refl, rw (e, ne_eqb number 0 n) refl)
+  refused_over reason e = (rw (e, ne_eqb (number_of reason) 0 (number_above reason)) refl, rw (e, ne_eqb (number_of reason) 0 (number_above reason)) refl)
 
   pub early_over : (number : ℕ) → number ≡ early_refusal k a trace x 0 → (number ≡ 0 → ⊥) → over_refusal k a trace x ≡ number
   early_over number e n = chain_fall (early_refusal k a trace x) (early_chain k a trace x) _ number e n
+
+  pub early_reason : (reason : Refusal) → number_of reason ≡ early_refusal k a trace x 0 → OverTrace k a trace x (Err reason) x
+  early_reason reason e = refused_over reason (early_over (number_of reason) e (number_above reason))
 
   module _ (z : 0 ≡ early_refusal k a trace x 0) where
     pub trace_ready : TraceReady k a trace x
@@ -157,30 +163,31 @@ module _ (k a : ℕ) (trace : List ℕ) (x : Table) where
               ∙ ap (λ (n : ℕ). replicate n 0) (begins k a trace x 0 (sym z)).0.times_even;
         }
 
-    module _ (left : Table) (r : Served) (told : ServedOver k a trace x left r) where
-      refusal_is : over_refusal k a trace x ≡ refuse r.full 10 0
+    module _ (left : Table) (r : Option MarkTotals) (told : ServedOver k a trace x left r) where
+      refusal_is : over_refusal k a trace x ≡ refuse (is_none r) 10 0
       refusal_is =
           begun k a trace x (begins k a trace x 0 (sym z)).0 _ ∙ ap (λ (b : Bool). refuse b 10 0) (sym told.full_told)
 
-      -- the lists were zeros, and are again
-      pub over_full : (pages numbers times : List ℕ) (m n l : ℕ) → r.full ≡ true → m ≡ length x.pages → n ≡ length x.numbers → l ≡ length x.times
-          → pages ≡ replicate m 0 → numbers ≡ replicate n 0 → times ≡ replicate l 0
-          → (totals : MarkTotals) → totals ≡ refused_totals 10 → OverTrace k a trace x totals (table_with pages numbers times)
-      over_full pages numbers times m n l f em en el ep eq et totals e =
-          let B = (begins k a trace x 0 (sym z)).0 in
-          let zeros : (xs ys : List ℕ) (d : ℕ) → all_zero xs ≡ true → d ≡ length xs → ys ≡ replicate d 0 → ys ≡ xs =
-          λ xs ys d w h g. g ∙ ap (λ (c : ℕ). replicate c 0) h ∙ sym (all_zeros xs w) in
-          let same : table_with pages numbers times ≡ x =
-          λ i. table_with (zeros x.pages pages m B.pages_zero em ep i) (zeros x.numbers numbers n B.numbers_zero en eq i)
-          (zeros x.times times l B.times_zero el et i) in
-          let t = refused_over 10 (refusal_is ∙ rw f refl) (λ h. omega arith) in
-          (e ∙ t.0, same ∙ t.1)
+    -- the lists were zeros, and are again
+    pub over_full : (left : Table) (pages numbers times : List ℕ) (m n l : ℕ) → ServedOver k a trace x left None
+        → m ≡ length x.pages → n ≡ length x.numbers → l ≡ length x.times → pages ≡ replicate m 0 → numbers ≡ replicate n 0 → times ≡ replicate l 0
+        → OverTrace k a trace x (Err TableFull) (table_with pages numbers times)
+    over_full left pages numbers times m n l told em en el ep eq et =
+        let B = (begins k a trace x 0 (sym z)).0 in
+        let zeros : (xs ys : List ℕ) (d : ℕ) → all_zero xs ≡ true → d ≡ length xs → ys ≡ replicate d 0 → ys ≡ xs =
+        λ xs ys d w h g. g ∙ ap (λ (c : ℕ). replicate c 0) h ∙ sym (all_zeros xs w) in
+        let same : table_with pages numbers times ≡ x =
+        λ i. table_with (zeros x.pages pages m B.pages_zero em ep i) (zeros x.numbers numbers n B.numbers_zero en eq i)
+        (zeros x.times times l B.times_zero el et i) in
+        let t = refused_over TableFull (refusal_is left None told) in
+        (t.0, same ∙ t.1)
 
-      pub over_done : r.full ≡ false → OverTrace k a trace x (record { refusal = 0; bundles = r.bundles; loads = r.loads }) left
-      unfolding totals_of table_over
-      over_done f =
-          let none : over_refusal k a trace x ≡ 0 = refusal_is ∙ rw f refl in
-          (rw (none, told.bundles_told f, told.loads_told f) refl, told.table_told f ∙ rw none refl)
+    pub over_done : (left : Table) (totals : MarkTotals) → ServedOver k a trace x left (Some totals) → OverTrace k a trace x (Ok totals) left
+    unfolding totals_of table_over
+    over_done left totals told =
+        let none : over_refusal k a trace x ≡ 0 = refusal_is left (Some totals) told in
+        let done : AllServed k a trace x left totals = told.done_told in
+        (rw (none, done.bundles_told, done.loads_told) refl, done.table_told ∙ rw none refl)
 
 -- A trace that is not too long, on a table of zeros with a place for each request, is not refused
 

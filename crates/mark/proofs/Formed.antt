@@ -6,14 +6,13 @@ use mathlib.Core.Bool.{Bool, true, false, not, ◌&&◌, ◌||◌}
 use mathlib.Core.List.{List, []}
 use mathlib.Core.Path.{◌≡◌, refl, sym, ap, ◌∙◌}
 use lib.Dec.{eqb, leb, ltb}
-use lib.ListN.{length, take, drop, get_or, drop_of_length-le}
+use lib.ListN.{length, drop, get_or, drop_of_length-le}
 use lib.Seq.{drop-cons}
-use borrow.Author.Tests.{eqb-true, eq-eqb, leb-true, le-leb, ltb-false, le-ltb, lt-leb, not-false}
+use borrow.Author.Tests.{eqb-true, eq-eqb, leb-true, le-leb, ltb-false, le-ltb, not-false}
 use Rattle.lists.specs.Choice.{◌and◌, ◌or◌}
-use Rattle.lists.proofs.Choice.{tests, cases, clash, and_i, and_l, and_r, and_false_l, and_false_r, or_none, or_none_l, or_none_r}
-use Rattle.marking.specs.Lists.{rising, all_marks}
+use Rattle.lists.proofs.Choice.{tests, cases, and_i, and_l, and_r, or_none, or_none_l, or_none_r}
 use Rattle.mark.specs.Calls.{lists_refused}
-use Rattle.mark.specs.Formed.{record_formed, buffer_formed, times_formed}
+use Rattle.mark.specs.Formed.{record_formed, times_formed}
 use Rattle.mark.specs.Lent.{Lent}
 use Rattle.mark.specs.declared.MarkRun.{MarkRun}
 
@@ -52,17 +51,6 @@ record_well run R =
     (and_i _ _ (eq-eqb _ _ R.one_k)
     (and_i _ _ (eq-eqb _ _ R.one_a) (eq-eqb _ _ R.one_count)))))
 
-pub record_ill : (run : MarkRun) → (Recorded run → ⊥) → false ≡ record_formed run
-record_ill run no-facts = cases (record_formed run) (λ w. absurd (no-facts (record_facts run w))) (λ w. sym w)
-
--- the last test decides where the others hold
-pub record_last : (run : MarkRun) → run.evictions ≤ run.loads → run.loads ≤ run.requests → run.t ≤ run.requests → run.layers.k ≡ run.k
-    → run.layers.a ≡ run.a → eqb run.layers.requests run.requests ≡ record_formed run
-record_last run e l t k a =
-    cases (eqb run.layers.requests run.requests)
-    (λ w. w ∙ sym (record_well run (record { evictions_low = e; loads_low = l; time_low = t; one_k = k; one_a = a; one_count = eqb-true _ _ w })))
-    (λ w. w ∙ record_ill run (λ R. clash _ (eq-eqb _ _ R.one_count) w))
-
 -- The lengths
 
 pub record Roomy (k a : ℕ) (x : Lent) : Type 0 where
@@ -98,23 +86,12 @@ lists_right k a x R =
     (or_none _ _ (le-ltb _ _ R.evicted_room)
     (or_none _ _ (ap not (eq-eqb _ _ R.numbers_even)) (ap not (eq-eqb _ _ R.times_even))))))
 
-pub lists_wrong : (k a : ℕ) (x : Lent) → (Roomy k a x → ⊥) → true ≡ lists_refused k a x
-lists_wrong k a x no-facts = cases (lists_refused k a x) (λ w. sym w) (λ w. absurd (no-facts (lists_facts k a x w)))
-
-pub lists_last : (k a : ℕ) (x : Lent) → k ≤ length x.cache → length x.marks ≡ length x.cache → length x.priorities ≡ length x.cache
-    → a ≤ length x.evicted → length x.numbers ≡ length x.pages → not (eqb (length x.times) (length x.pages)) ≡ lists_refused k a x
-lists_last k a x c m p e n =
-    cases (eqb (length x.times) (length x.pages))
-    (λ w. ap not w
-    ∙ sym (lists_right k a x (record { cache_room = c; marks_even = m; priorities_even = p; evicted_room = e; numbers_even = n; times_even = eqb-true _ _ w })))
-    (λ w. ap not w ∙ lists_wrong k a x (λ R. clash _ (eq-eqb _ _ R.times_even) w))
-
 -- t0 beside the table, from place to place: nothing wrong before place i, and nothing behind it
 
 pub times_turn : (t i : ℕ) (bad : Bool) (ns ts : List ℕ) → length ts ≡ length ns → i < length ts
     → times_formed t ns ts ≡ not bad and times_formed t (drop i ns) (drop i ts)
     → times_formed t ns ts
-    ≡ not ((bad || ltb t (get_or ts i 0)) || (eqb (get_or ns i 0) 0 && not (eqb (get_or ts i 0) 0))) and times_formed t (drop (i + 1) ns) (drop (i + 1) ts)
+    ≡ not (bad || (ltb t (get_or ts i 0) || (eqb (get_or ns i 0) 0 && not (eqb (get_or ts i 0) 0)))) and times_formed t (drop (i + 1) ns) (drop (i + 1) ts)
 unfolding ◌and◌ ◌or◌
 times_turn t i bad ns ts e h told =
     let one = drop-cons ns i 0 (omega arith) in
@@ -139,7 +116,7 @@ times_turn t i bad ns ts e h told =
         third false rest = refl
 
     here : (bad : Bool) (n x : ℕ) (rest : Bool)
-        → (not bad and (leb x t and (ltb 0 n or eqb x 0) and rest)) ≡ not ((bad || ltb t x) || (eqb n 0 && not (eqb x 0))) and rest
+        → (not bad and (leb x t and (ltb 0 n or eqb x 0) and rest)) ≡ not (bad || (ltb t x || (eqb n 0 && not (eqb x 0)))) and rest
     here true n x rest = refl
     here false n x rest = first (ltb t x) n x rest (cases (ltb t x) (λ z. rw z (omega tests)) (λ z. rw z (omega tests)))
 
@@ -154,17 +131,3 @@ times_end t i true ns ts e h told = sym told
 times_end t i false ns ts e h told =
     let past : length ns ≤ i = omega arith in
     let none : drop i ns ≡ [] = drop_of_length-le ns past in sym (told ∙ rw none refl)
-
--- The cached pages
-
-pub buffer_many : (k n : ℕ) (cache marks : List ℕ) → k < n → false ≡ buffer_formed k n cache marks
-unfolding buffer_formed
-buffer_many k n cache marks h = sym (and_false_l _ _ (lt-leb _ _ h))
-
-pub buffer_unordered : (k n : ℕ) (cache marks : List ℕ) → rising (take n cache) ≡ false → false ≡ buffer_formed k n cache marks
-unfolding buffer_formed
-buffer_unordered k n cache marks e = sym (and_false_r _ _ (and_false_l _ _ e))
-
-pub buffer_marks : (k n : ℕ) (cache marks : List ℕ) → n ≤ k → rising (take n cache) ≡ true → all_marks (take n marks) ≡ buffer_formed k n cache marks
-unfolding buffer_formed ◌and◌
-buffer_marks k n cache marks h e = rw (le-leb n k h, e) refl

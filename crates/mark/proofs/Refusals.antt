@@ -6,23 +6,26 @@ use mathlib.Core.Path.{◌≡◌, refl, sym, ap, ◌∙◌}
 use lib.Dec.{eqb}
 use lib.ListN.{length, take}
 use borrow.Author.Tests.{eqb-true, eq-eqb, ne_eqb, leb-true, le-leb, not-false}
+use Rattle.std.proofs.Common.{Result, Ok, Err}
 use Rattle.lists.proofs.Choice.{cases, clash, and_i, and_l, and_r, and_false_l, and_false_r}
+use Rattle.paging.specs.Numbers.{number_of, refusal_of}
+use Rattle.paging.specs.declared.reasons.Refusal.{Refusal}
+use Rattle.paging.specs.declared.reasons.Refusal.TheVariants.{TooLittleRoom, IllFormed, CounterFull}
 use Rattle.paging.specs.Refusals.{refuse, sizes_refusal, SizesRight}
 use Rattle.paging.specs.Rows.{rows_of}
 use Rattle.paging.specs.Table.{revealed}
 use Rattle.paging.proofs.Refusals.{zero_pass, Chain, chain_end, chain_refuse, chain_behind, sizes_chain, sizes_rest, sizes_taken, sizes_fall}
 use Rattle.layers.specs.Calls as layers_calls
 use Rattle.layers.specs.Formed.{layers_well_formed}
-use Rattle.layers.specs.Questions.{revealed_reply, RevealedTold}
-use Rattle.layers.specs.declared.RevealedReply.{RevealedReply}
+use Rattle.layers.specs.Questions.{revealed_answer, revealed_reply, RevealedTold}
 use Rattle.layers.proofs.Refusing.{state_ready, state_pass}
 use Rattle.marking.specs.Lists.{rising, all_marks}
 use Rattle.mark.specs.Calls.{lists_refused, state_refusal}
 use Rattle.mark.specs.Formed.{record_formed, buffer_formed, times_formed, mark_well_formed}
 use Rattle.mark.specs.Lent.{Lent, rows_in}
 use Rattle.mark.specs.declared.MarkRun.{MarkRun}
-use Rattle.mark.specs.declared.refusing.Judged.{Judged}
 use Rattle.mark.specs.inner.Judging.{JudgedTo}
+use Rattle.layers.proofs.Refusing.{number_above}
 use Rattle.mark.proofs.Formed.{Recorded, record_facts, record_well, Roomy, lists_facts, lists_right}
 
 -- what is known where a request is refused with none of 1, 2, 8, 9 and 12
@@ -84,21 +87,28 @@ module _ (run : MarkRun) (count : ℕ) (x : Lent) where
 
 -- The question to the layers
 
-module _ (run : MarkRun) (x : Lent) (r : RevealedReply) (told : RevealedTold run.layers x.pages x.numbers r) where
-  layers_number : r.refusal ≡ layers_calls.state_refusal run.layers x.pages x.numbers 0
-  layers_number = ap (λ y. y.refusal) told.reply ∙ (unfold revealed_reply in
+module _ (run : MarkRun) (x : Lent) (r : Result ℕ Refusal) (told : RevealedTold run.layers x.pages x.numbers r) where
+  layers_number : refusal_of r ≡ layers_calls.state_refusal run.layers x.pages x.numbers 0
+  layers_number = number_is r ∙ ap (λ y. y.refusal) told.reply ∙ (unfold revealed_reply in
       cases (eqb (layers_calls.state_refusal run.layers x.pages x.numbers 0) 0)
       (λ z. rw z (sym (eqb-true _ 0 z)))
       (λ z. rw z refl))
+    where
+      number_is : (r : Result ℕ Refusal) → refusal_of r ≡ (revealed_answer r).refusal
+      number_is (Ok shown) = refl
+      number_is (Err reason) = refl
 
-  pub layers_shown : r.refusal ≡ 0 → r.count ≡ revealed run.layers.s (rows_in x)
-  layers_shown z = ap (λ y. y.count) told.reply ∙ (unfold revealed_reply in rw (eq-eqb _ 0 (sym layers_number ∙ z)) refl)
+  reply_count : refusal_of r ≡ 0 → (revealed_answer r).count ≡ revealed run.layers.s (rows_in x)
+  reply_count z = ap (λ y. y.count) told.reply ∙ (unfold revealed_reply in rw (eq-eqb _ 0 (sym layers_number ∙ z)) refl)
 
-  pub layers_well : r.refusal ≡ 0 → layers_well_formed run.layers (rows_of x.numbers x.pages) ≡ true
+  pub layers_shown : (shown : ℕ) → r ≡ Ok shown → shown ≡ revealed run.layers.s (rows_in x)
+  layers_shown shown e = sym (ap (λ (y : Result ℕ Refusal). (revealed_answer y).count) e) ∙ reply_count (ap (λ (y : Result ℕ Refusal). refusal_of y) e)
+
+  pub layers_well : refusal_of r ≡ 0 → layers_well_formed run.layers (rows_of x.numbers x.pages) ≡ true
   layers_well z = (state_ready run.layers x.pages x.numbers (sym layers_number ∙ z)).formed
 
   -- sizes and lengths are judged before: only an ill_formed table is left
-  pub layers_ill : SizesRight run.k run.a → Recorded run → length x.numbers ≡ length x.pages → (r.refusal ≡ 0 → ⊥)
+  pub layers_ill : SizesRight run.k run.a → Recorded run → length x.numbers ≡ length x.pages → (refusal_of r ≡ 0 → ⊥)
       → layers_well_formed run.layers (rows_of x.numbers x.pages) ≡ false
   layers_ill right R even n =
       cases (layers_well_formed run.layers (rows_of x.numbers x.pages))
@@ -109,64 +119,60 @@ module _ (run : MarkRun) (x : Lent) (r : RevealedReply) (told : RevealedTold run
 -- The refusals in order, as the code judges them
 
 module _ (run : MarkRun) (count : ℕ) (x : Lent) where
-  falls : (number : ℕ) → state_refusal run count x 0 ≡ number → (number ≡ 0 → ⊥) → (r : Judged) → (r.refusal ≡ number) × (r.revealed ≡ 0) → JudgedTo run count x r
-  falls number e n r f =
-      record { refusal_told = f.0 ∙ sym e; revealed_told = λ z. absurd (n (sym f.0 ∙ z)); more = λ z. absurd (n (sym f.0 ∙ z)) }
+  falls : (reason : Refusal) → state_refusal run count x 0 ≡ number_of reason → JudgedTo run count x (Err reason)
+  falls reason e = record { refusal_told = sym e; passed = tt }
 
-  pub judged_sizes : (number : ℕ) → number ≡ sizes_refusal run.k run.a 0 → (number ≡ 0 → ⊥) → (r : Judged) → (r.refusal ≡ number) × (r.revealed ≡ 0)
-      → JudgedTo run count x r
+  pub judged_sizes : (reason : Refusal) → number_of reason ≡ sizes_refusal run.k run.a 0 → JudgedTo run count x (Err reason)
   unfolding state_refusal
-  judged_sizes number e n r f = falls number (sizes_fall run.k run.a _ number e n) n r f
+  judged_sizes reason e = falls reason (sizes_fall run.k run.a _ (number_of reason) e (number_above reason))
 
   module _ (right : SizesRight run.k run.a) where
-    pub judged_lists : true ≡ lists_refused run.k run.a x → (r : Judged) → (r.refusal ≡ 8) × (r.revealed ≡ 0) → JudgedTo run count x r
+    pub judged_lists : true ≡ lists_refused run.k run.a x → JudgedTo run count x (Err TooLittleRoom)
     unfolding state_refusal
-    judged_lists e r f = falls 8 (sizes_taken run.k run.a right _ ∙ rw (← e) refl) (λ z. omega arith) r f
+    judged_lists e = falls TooLittleRoom (sizes_taken run.k run.a right _ ∙ rw (← e) refl)
 
     module _ (roomy : false ≡ lists_refused run.k run.a x) where
       pub room : Roomy run.k run.a x
       room = lists_facts run.k run.a x (sym roomy)
 
-      ill : mark_well_formed run count x ≡ false → (r : Judged) → (r.refusal ≡ 9) × (r.revealed ≡ 0) → JudgedTo run count x r
+      ill : mark_well_formed run count x ≡ false → JudgedTo run count x (Err IllFormed)
       unfolding state_refusal
-      ill w r f = falls 9 (sizes_taken run.k run.a right _ ∙ rw (← roomy, w) refl) (λ z. omega arith) r f
+      ill w = falls IllFormed (sizes_taken run.k run.a right _ ∙ rw (← roomy, w) refl)
 
-      pub judged_record : false ≡ record_formed run → (r : Judged) → (r.refusal ≡ 9) × (r.revealed ≡ 0) → JudgedTo run count x r
+      pub judged_record : false ≡ record_formed run → JudgedTo run count x (Err IllFormed)
       unfolding mark_well_formed
       judged_record e = ill (and_false_l _ _ (sym e))
 
-      pub judged_buffer : false ≡ buffer_formed run.k count x.cache x.marks → (r : Judged) → (r.refusal ≡ 9) × (r.revealed ≡ 0) → JudgedTo run count x r
+      pub judged_buffer : false ≡ buffer_formed run.k count x.cache x.marks → JudgedTo run count x (Err IllFormed)
       unfolding mark_well_formed
       judged_buffer e = ill (and_false_r _ _ (and_false_l _ _ (sym e)))
 
-      module _ (record_well : true ≡ record_formed run) (shown : RevealedReply) (told : RevealedTold run.layers x.pages x.numbers shown) where
-        pub judged_layers : (shown.refusal ≡ 0 → ⊥) → (r : Judged) → (r.refusal ≡ 9) × (r.revealed ≡ 0) → JudgedTo run count x r
+      module _ (record_well : true ≡ record_formed run) (r : Result ℕ Refusal) (told : RevealedTold run.layers x.pages x.numbers r) where
+        pub judged_layers : (refusal_of r ≡ 0 → ⊥) → JudgedTo run count x (Err IllFormed)
         unfolding mark_well_formed
         judged_layers n =
             ill (and_false_r _ _ (and_false_r _ _ (and_false_l _ _
-            (layers_ill run x shown told right (record_facts run (sym record_well)) room.numbers_even n))))
+            (layers_ill run x r told right (record_facts run (sym record_well)) room.numbers_even n))))
 
-        pub judged_times : false ≡ times_formed run.t x.numbers x.times → (r : Judged) → (r.refusal ≡ 9) × (r.revealed ≡ 0) → JudgedTo run count x r
+        pub judged_times : false ≡ times_formed run.t x.numbers x.times → JudgedTo run count x (Err IllFormed)
         unfolding mark_well_formed
         judged_times e = ill (and_false_r _ _ (and_false_r _ _ (and_false_r _ _ (sym e))))
 
-        module _ (buffer-well : true ≡ buffer_formed run.k count x.cache x.marks) (z : shown.refusal ≡ 0)
+        module _ (buffer-well : true ≡ buffer_formed run.k count x.cache x.marks) (shown : ℕ) (is : r ≡ Ok shown)
             (times_well : true ≡ times_formed run.t x.numbers x.times) where
           well : mark_well_formed run count x ≡ true
           unfolding mark_well_formed
-          well = and_i _ _ (sym record_well) (and_i _ _ (sym buffer-well) (and_i _ _ (layers_well run x shown told z) (sym times_well)))
+          well = and_i _ _ (sym record_well) (and_i _ _ (sym buffer-well) (and_i _ _ (layers_well run x r told (ap refusal_of is)) (sym times_well)))
 
-          pub judged_last : run.requests ≡ 4294967295 → (r : Judged) → (r.refusal ≡ 12) × (r.revealed ≡ 0) → JudgedTo run count x r
+          pub judged_last : run.requests ≡ 4294967295 → JudgedTo run count x (Err CounterFull)
           unfolding state_refusal
-          judged_last e r f =
-              falls 12 (sizes_taken run.k run.a right _ ∙ rw (← roomy, well, eq-eqb _ _ e) refl) (λ z. omega arith) r f
+          judged_last e = falls CounterFull (sizes_taken run.k run.a right _ ∙ rw (← roomy, well, eq-eqb _ _ e) refl)
 
-          pub judged_none : run.requests < 4294967295 → JudgedTo run count x (record { refusal = 0; revealed = shown.count })
+          pub judged_none : run.requests < 4294967295 → JudgedTo run count x (Ok shown)
           unfolding state_refusal
           judged_none m =
               let n : run.requests ≡ 4294967295 → ⊥ = λ e. omega arith in
               record {
                 refusal_told = sym (sizes_taken run.k run.a right _ ∙ rw (← roomy, well, ne_eqb _ _ n) refl);
-                revealed_told = λ _. layers_shown run x shown told z;
-                more = λ _. m;
+                passed = record { revealed_told = layers_shown run x r told shown is; more = m };
               }

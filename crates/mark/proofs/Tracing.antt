@@ -2,18 +2,20 @@
 use Prim.Native.Nat.{ℕ, zero, suc, ◌+◌, ◌-◌, ◌≤◌, ◌<◌}
 use native.Mathlib.Numerals.{add-one}
 use native.Mathlib.Omega.{arith}
-use mathlib.Core.Bool.{Bool, true, false, not}
+use mathlib.Core.Bool.{Bool, false, not}
 use mathlib.Core.List.{List, [], ◌∷◌, ◌++◌}
 use mathlib.Core.Path.{◌≡◌, refl, sym, ap, subst, ◌∙◌}
-use lib.Dec.{eqb, ltb}
+use lib.Dec.{ltb}
 use lib.ListN.{length, take, drop, get_or, replicate, length-replicate, drop_of_length-le}
 use lib.Seq.{drop-cons, take-suc, take_all}
 use borrow.Author.Tests.{ltb-false}
+use Rattle.std.proofs.Common.{Option, Some, None, is_none}
 use Rattle.lists.specs.Choice.{◌or◌}
 use Rattle.lists.specs.Pages.{bit}
 use Rattle.lists.specs.Sorting.{Row}
-use Rattle.lists.proofs.Choice.{clash, bit_le, or_l}
-use Rattle.paging.specs.Policy.{kind_number, is_load, is_bundled}
+use Rattle.lists.proofs.Choice.{bit_le, or_l}
+use Rattle.paging.specs.Numbers.{kind_of_outcome}
+use Rattle.paging.specs.Policy.{is_load, is_bundled}
 use Rattle.paging.specs.Refusals.{SizesRight}
 use Rattle.paging.specs.Rows.{rows_of, numbers_of, pages_of, unused, used_rows, table_of}
 use Rattle.paging.specs.Table.{rows_after, Tabled, nothing_yet, tabled_next, tabled_after}
@@ -29,20 +31,19 @@ use Rattle.mark.specs.Traces.{Table, table_with}
 use Rattle.mark.specs.declared.serving.Point.{Point}
 use Rattle.mark.specs.declared.serving.Stepped.{Stepped}
 use Rattle.mark.specs.inner.Over.{TraceReady, ServedOver}
-use Rattle.mark.specs.inner.Stepping.{StepReady, held_at, point_after, SteppedTo}
-use Rattle.mark.proofs.Points.{load_number, bundle_number}
+use Rattle.mark.specs.inner.Stepping.{StepReady, held_at, point_after, SteppedBy, SteppedTo}
 use Rattle.mark.proofs.Onward.{held_served, ready_served, pages_places}
 
 pub record SoFar (k a : ℕ) (trace : List ℕ) (places i bundles loads : ℕ) (at : Point) (x : Lent) : Type 0 where
   pub ready : StepReady k a at x
   pub within : i ≤ length trace
   pub size : length x.pages ≡ places
-  pub holds : held_in at.s (marking_after k a (take i trace) no_marking).clock.layers.joins at.t at.count x ≡ marking_after k a (take i trace) no_marking
+  pub holds : held_in at.table.s (marking_after k a (take i trace) no_marking).clock.layers.joins at.table.t at.count x ≡ marking_after k a (take i trace) no_marking
   pub bundles_are : bundles ≡ mark_bundles (rdm k a) k a (take i trace)
   pub loads_are : loads ≡ mark_loads (rdm k a) k a (take i trace)
   pub few_bundles : bundles ≤ i
   pub few_loads : loads ≤ i
-  pub time_low : at.t ≤ i
+  pub time_low : at.table.t ≤ i
   pub full_left : overflows k a places trace nothing_yet ≡ overflows k a places (drop i trace) (tabled_after k a (take i trace) nothing_yet)
 
 or_pass : (b c : Bool) → b ≡ false → (b or c) ≡ c
@@ -61,7 +62,7 @@ module _ (k a : ℕ) (trace : List ℕ) (places i bundles loads : ℕ) (at : Poi
   -- At the end
 
   pub tracing_end : (lent_table : Table) → places ≡ length lent_table.pages → length trace ≤ i
-      → ServedOver k a trace lent_table (table_with x.pages x.numbers x.times) (record { full = false; bundles = bundles; loads = loads })
+      → ServedOver k a trace lent_table (table_with x.pages x.numbers x.times) (Some (record { bundles = bundles; loads = loads }))
   tracing_end lent_table count h =
       let all : take i trace ≡ trace = take_all i trace h in
       let none : drop i trace ≡ [] = drop_of_length-le trace h in
@@ -77,9 +78,11 @@ module _ (k a : ℕ) (trace : List ℕ) (places i bundles loads : ℕ) (at : Poi
       let times : x.times ≡ times_of places (tabled_after k a trace nothing_yet).rows (clock_after k a trace no_clock).times = times_whole layers clock in
       record {
         full_told = rw (← count, Y.full_left, none) refl;
-        table_told = λ _. rw (← count) (λ j. table_with (pages j) (numbers j) (times j));
-        bundles_told = λ _. rw all at Y.bundles_are;
-        loads_told = λ _. rw all at Y.loads_are;
+        done_told = record {
+          table_told = rw (← count) (λ j. table_with (pages j) (numbers j) (times j));
+          bundles_told = rw all at Y.bundles_are;
+          loads_told = rw all at Y.loads_are;
+        };
       }
     where
       parts : (n : ℕ) (xs : List ℕ) → take n xs ++ drop n xs ≡ xs
@@ -96,41 +99,41 @@ module _ (k a : ℕ) (trace : List ℕ) (places i bundles loads : ℕ) (at : Poi
 
   -- A request more
 
-  module _ (h : i < length trace) (left : Lent) (r : Stepped) (told : SteppedTo k a (get_or trace i 0) at x left r) where
+  module _ (h : i < length trace) (left : Lent) where
     rows_are : rows_in x ≡ (tabled_after k a (take i trace) nothing_yet).rows
     rows_are = ap (λ (y : Marking). y.clock.layers.rows) Y.holds ∙ ap (λ (T : Tabled). T.rows) (marking_layers k a (take i trace))
 
-    top_is : at.s ≡ (tabled_after k a (take i trace) nothing_yet).s
+    top_is : at.table.s ≡ (tabled_after k a (take i trace) nothing_yet).s
     top_is = ap (λ (y : Marking). y.clock.layers.s) Y.holds ∙ ap (λ (T : Tabled). T.s) (marking_layers k a (take i trace))
 
-    full_is : r.full ≡ ltb places (length (tabled_next k a (get_or trace i 0) (tabled_after k a (take i trace) nothing_yet)).rows)
-    full_is = told.full_told ∙ rw (Y.size, rows_are, top_is) refl
+    full_is : (r : Option Stepped) → SteppedTo k a (get_or trace i 0) at x left r
+        → is_none r ≡ ltb places (length (tabled_next k a (get_or trace i 0) (tabled_after k a (take i trace) nothing_yet)).rows)
+    full_is r told = told.full_told ∙ rw (Y.size, rows_are, top_is) refl
 
     here : overflows k a places (drop i trace) (tabled_after k a (take i trace) nothing_yet)
         ≡ ltb places (length (tabled_next k a (get_or trace i 0) (tabled_after k a (take i trace) nothing_yet)).rows)
         or overflows k a places (drop (suc i) trace) (tabled_next k a (get_or trace i 0) (tabled_after k a (take i trace) nothing_yet))
     here = ap (λ (l : List ℕ). overflows k a places l (tabled_after k a (take i trace) nothing_yet)) (drop-cons trace i 0 h)
 
-    pub tracing_full : (lent_table after : Table) → places ≡ length lent_table.pages → r.full ≡ true
-        → ServedOver k a trace lent_table after (record { full = true; bundles = 0; loads = 0 })
-    tracing_full lent_table after count f =
-        record {
-          full_told = rw (← count) (sym (Y.full_left ∙ here ∙ or_l _ _ (sym full_is ∙ f)));
-          table_told = λ e. clash true refl e;
-          bundles_told = λ e. clash true refl e;
-          loads_told = λ e. clash true refl e;
-        }
+    pub tracing_full : SteppedTo k a (get_or trace i 0) at x left None → (lent_table after : Table) → places ≡ length lent_table.pages
+        → ServedOver k a trace lent_table after None
+    tracing_full told lent_table after count =
+        record { full_told = rw (← count) (sym (Y.full_left ∙ here ∙ or_l _ _ (sym (full_is None told)))); done_told = tt }
 
-    module _ (served : r.full ≡ false) (few : length trace ≤ 65536) (b l : ℕ) (b-is : b ≡ bit (eqb r.answer 2)) (l-is : l ≡ bit (ltb 0 r.answer))
+    module _ (r : Stepped) (told : SteppedTo k a (get_or trace i 0) at x left (Some r)) (few : length trace ≤ 65536)
+        (b l : ℕ) (b-is : b ≡ bit (is_bundled (kind_of_outcome r.outcome))) (l-is : l ≡ bit (is_load (kind_of_outcome r.outcome)))
         (kept : length left.evicted ≡ length x.evicted) where
-      space : length (rows_after k a at.s (get_or trace i 0) (rows_in x)) ≤ length x.pages
-      space = ltb-false _ _ (sym told.full_told ∙ served)
+      done : SteppedBy k a (get_or trace i 0) at x r
+      done = told.done_told
+
+      space : length (rows_after k a at.table.s (get_or trace i 0) (rows_in x)) ≤ length x.pages
+      space = ltb-false _ _ (sym told.full_told)
 
       left_is : left ≡ lent_served k a (get_or trace i 0) (held_at at x) x
-      left_is = told.lists_told ∙ rw served refl
+      left_is = told.lists_told
 
       next_is : marking_after k a (take (i + 1) trace) no_marking
-          ≡ marking_next k a (get_or trace i 0) (held_in at.s (marking_after k a (take i trace) no_marking).clock.layers.joins at.t at.count x)
+          ≡ marking_next k a (get_or trace i 0) (held_in at.table.s (marking_after k a (take i trace) no_marking).clock.layers.joins at.table.t at.count x)
       next_is =
           rw (add-one i, take-suc trace i 0 h) (marking_after_snoc k a (take i trace) (get_or trace i 0) no_marking)
           ∙ ap (marking_next k a (get_or trace i 0)) (sym Y.holds)
@@ -138,27 +141,24 @@ module _ (k a : ℕ) (trace : List ℕ) (places i bundles loads : ℕ) (at : Poi
       time_next_lem : time_next (get_or trace i 0) (held_at at x).clock ≤ i + 1
       time_next_lem = omega (arith, Y.time_low, bit_le (not (is_revealed (get_or trace i 0) (held_at at x).clock.layers)))
 
-      answer_is : r.answer ≡ kind_number (mark_kind k (get_or trace i 0) (held_at at x).cached)
-      answer_is = told.answer_told served
-
       cached_is : (held_at at x).cached ≡ (marking_after k a (take i trace) no_marking).cached
       cached_is = ap (λ (y : Marking). y.cached) Y.holds
 
       bundles_next : bundles + b ≡ mark_bundles (rdm k a) k a (take (i + 1) trace)
       bundles_next =
           let one : b ≡ bit (is_bundled (mark_kind k (get_or trace i 0) (marking_after k a (take i trace) no_marking).cached)) =
-          b-is ∙ rw (answer_is, bundle_number (mark_kind k (get_or trace i 0) (held_at at x).cached), cached_is) refl in
+          b-is ∙ rw (done.outcome_told, cached_is) refl in
           rw (Y.bundles_are, one, add-one i, take-suc trace i 0 h) (sym (bundles_snoc k a (take i trace) (get_or trace i 0)))
 
       loads_next : loads + l ≡ mark_loads (rdm k a) k a (take (i + 1) trace)
       loads_next =
           let one : l ≡ bit (is_load (mark_kind k (get_or trace i 0) (marking_after k a (take i trace) no_marking).cached)) =
-          l-is ∙ rw (answer_is, load_number (mark_kind k (get_or trace i 0) (held_at at x).cached), cached_is) refl in
+          l-is ∙ rw (done.outcome_told, cached_is) refl in
           rw (Y.loads_are, one, add-one i, take-suc trace i 0 h) (sym (loads_snoc k a (take i trace) (get_or trace i 0)))
 
       pub tracing_next : SoFar k a trace places (i + 1) (bundles + b) (loads + l) r.after left
       tracing_next =
-          let after_is : r.after ≡ point_after k a (get_or trace i 0) at x = told.point_told served in
+          let after_is : r.after ≡ point_after k a (get_or trace i 0) at x = done.point_told in
           let kept' : length (lent_served k a (get_or trace i 0) (held_at at x) x).evicted ≡ length x.evicted = rw left_is at kept in
           rw (after_is, left_is) (record {
             ready = ready_served k a (get_or trace i 0) at x Y.ready space kept' (omega (arith, time_next_lem));
@@ -167,10 +167,10 @@ module _ (k a : ℕ) (trace : List ℕ) (places i bundles loads : ℕ) (at : Poi
             holds = rw next_is (held_served k a (get_or trace i 0) at x Y.ready space (marking_after k a (take i trace) no_marking).clock.layers.joins);
             bundles_are = bundles_next;
             loads_are = loads_next;
-            few_bundles = omega (arith, Y.few_bundles, bit_le (eqb r.answer 2));
-            few_loads = omega (arith, Y.few_loads, bit_le (ltb 0 r.answer));
+            few_bundles = omega (arith, Y.few_bundles, bit_le (is_bundled (kind_of_outcome r.outcome)));
+            few_loads = omega (arith, Y.few_loads, bit_le (is_load (kind_of_outcome r.outcome)));
             time_low = time_next_lem;
-            full_left = Y.full_left ∙ here ∙ or_pass _ _ (sym full_is ∙ served) ∙ rw (add-one i, take-suc trace i 0 h, tabled_snoc k a (take i trace) (get_or trace i 0) nothing_yet) refl;
+            full_left = Y.full_left ∙ here ∙ or_pass _ _ (sym (full_is (Some r) told)) ∙ rw (add-one i, take-suc trace i 0 h, tabled_snoc k a (take i trace) (get_or trace i 0) nothing_yet) refl;
           })
 
 -- Before the first request
@@ -190,7 +190,7 @@ zeros_low (suc n) (suc i) t = zeros_low n i t
 
 pub tracing_start : (k a : ℕ) (trace : List ℕ) (places : ℕ) (cache marks priorities evicted : List ℕ) → SizesRight k a
     → 256 ≤ length cache → 256 ≤ length marks → 256 ≤ length priorities → 256 ≤ length evicted
-    → SoFar k a trace places 0 0 0 (record { s = 0; t = 0; revealed = 0; used = 0; count = 0 })
+    → SoFar k a trace places 0 0 0 (record { table = record { s = 0; t = 0; revealed = 0; used = 0 }; count = 0 })
     (lent cache marks priorities evicted (replicate places 0) (replicate places 0) (replicate places 0))
 tracing_start k a trace places cache marks priorities evicted right c m p e =
     let none : used_rows (rows_of (replicate places 0) (replicate places 0)) ≡ [] = ap used_rows (blank_rows places) ∙ none_used places in
@@ -237,12 +237,12 @@ tracing_start k a trace places cache marks priorities evicted right c m p e =
 -- on a table that is all unused
 pub tracing_begin : (k a : ℕ) (trace : List ℕ) (x : Table) (cache marks priorities evicted : List ℕ) → TraceReady k a trace x
     → length cache ≡ 256 → length marks ≡ 256 → length priorities ≡ 256 → length evicted ≡ 256
-    → SoFar k a trace (length x.pages) 0 0 0 (record { s = 0; t = 0; revealed = 0; used = 0; count = 0 })
+    → SoFar k a trace (length x.pages) 0 0 0 (record { table = record { s = 0; t = 0; revealed = 0; used = 0 }; count = 0 })
     (lent cache marks priorities evicted x.pages x.numbers x.times)
 tracing_begin k a trace x cache marks priorities evicted R c m p e =
     let places = length x.pages in
     let same : lent cache marks priorities evicted x.pages x.numbers x.times
     ≡ lent cache marks priorities evicted (replicate places 0) (replicate places 0) (replicate places 0) =
     λ i. lent cache marks priorities evicted (R.blank_pages i) (R.blank_numbers i) (R.blank_times i) in
-    subst (SoFar k a trace places 0 0 0 (record { s = 0; t = 0; revealed = 0; used = 0; count = 0 })) (sym same)
+    subst (SoFar k a trace places 0 0 0 (record { table = record { s = 0; t = 0; revealed = 0; used = 0 }; count = 0 })) (sym same)
     (tracing_start k a trace places cache marks priorities evicted R.sizes (omega arith) (omega arith) (omega arith) (omega arith))

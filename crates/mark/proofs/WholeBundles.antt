@@ -2,20 +2,22 @@
 -- with a buffer; the rule by which the layers serve a request says what the request is.
 use Prim.Native.Nat.{ℕ, ◌+◌, ◌≤◌, ◌<◌}
 use native.Mathlib.Omega.{arith}
-use mathlib.Core.Bool.{Bool, true, false}
+use mathlib.Core.Bool.{Bool}
 use mathlib.Core.List.{List, ◌++◌}
 use mathlib.Core.Path.{◌≡◌, refl, sym, ap, subst, ◌∙◌}
-use lib.Dec.{eqb, ltb}
 use lib.ListN.{length, take, drop, get_or, replicate, length-append, length-drop, length-map, length-replicate}
 use lib.Seq.{length-take-le}
+use Rattle.std.proofs.Common.{Option, Some, None}
 use Rattle.lists.specs.Choice.{pick}
 use Rattle.lists.specs.Pages.{bit}
 use Rattle.lists.specs.Places.{laid}
 use Rattle.lists.specs.Sorting.{sort_by}
 use Rattle.lists.proofs.Sorting.{length_sort}
 use Rattle.paging.specs.Layers.{is_join}
-use Rattle.paging.specs.Policy.{Kind, kind_number, is_bundled}
+use Rattle.paging.specs.Numbers.{kind_of_outcome}
+use Rattle.paging.specs.Policy.{Kind, is_bundled, is_load}
 use Rattle.paging.specs.Table.{rule_in}
+use Rattle.paging.specs.declared.outcomes.Outcome.{Outcome}
 use Rattle.paging.proofs.Runs.{kind_of_cases}
 use Rattle.table.specs.Serving.{rule_of}
 use Rattle.marking.specs.Marking.{Cached, pages_in, marks_in, priorities_in, sooner, cleared, mark_bundle, mark_kind, mark_served}
@@ -27,15 +29,15 @@ use Rattle.mark.specs.Traces.{Table, table_with}
 use Rattle.mark.specs.declared.serving.Advanced.{Advanced}
 use Rattle.mark.specs.declared.serving.Point.{Point}
 use Rattle.mark.specs.declared.serving.TablePoint.{TablePoint}
-use Rattle.mark.specs.declared.trace.Served.{Served}
+use Rattle.mark.specs.declared.MarkTotals.{MarkTotals}
 use Rattle.mark.specs.inner.Over.{TraceReady, ServedOver}
-use Rattle.mark.specs.inner.Stepping.{TableReady, AdvancedTo, held_at}
+use Rattle.mark.specs.inner.Stepping.{TableReady, AdvancedBy, AdvancedTo, held_at}
 use Rattle.mark.proofs.Stepping.{stepped_full, stepped_served}
 use Rattle.mark.proofs.Tracing.{SoFar, tracing_begin, tracing_full, tracing_next, tracing_end}
 use Rattle.mark.proofs.Tracing as tracing
 
 abbrev pub with_count : TablePoint → (count : ℕ) → Point
-with_count at count = record { s = at.s; t = at.t; revealed = at.revealed; used = at.used; count = count }
+with_count at count = record { table = at; count = count }
 
 -- there are such lists
 pub record Unkept (k : ℕ) (trace : List ℕ) (places i bundles loads : ℕ) (at : TablePoint) (x : Table) : Type 0 where
@@ -88,17 +90,21 @@ module _ (k : ℕ) (trace : List ℕ) (places i bundles loads : ℕ) (at : Table
   loads_fit = tracing.loads_fit k k trace places i bundles loads _ _ Y.so_far
 
   pub unkept_end : (lent_table : Table) → places ≡ length lent_table.pages → length trace ≤ i
-      → ServedOver k k trace lent_table x (record { full = false; bundles = bundles; loads = loads })
+      → ServedOver k k trace lent_table x (Some (record { bundles = bundles; loads = loads }))
   unkept_end = tracing_end k k trace places i bundles loads _ _ Y.so_far
 
+  pub unkept_full : i < length trace → (pages' numbers' times' : List ℕ)
+      → AdvancedTo k k (get_or trace i 0) at x (table_with pages' numbers' times') None
+      → (lent_table after : Table) → places ≡ length lent_table.pages → ServedOver k k trace lent_table after None
+  unkept_full h pages' numbers' times' told lent_table after size =
+      let step = stepped_full k k (get_or trace i 0) (with_count at Y.count)
+      (lent Y.cache Y.marks Y.priorities Y.evicted x.pages x.numbers x.times) pages' numbers' times' told in
+      tracing_full k k trace places i bundles loads _ _ Y.so_far h _ step lent_table after size
+
   module _ (h : i < length trace) (pages' numbers' times' : List ℕ) (moved : Advanced)
-      (told : AdvancedTo k k (get_or trace i 0) at x (table_with pages' numbers' times') moved) where
-    pub unkept_full : (lent_table after : Table) → places ≡ length lent_table.pages → moved.full ≡ true
-        → ServedOver k k trace lent_table after (record { full = true; bundles = 0; loads = 0 })
-    unkept_full lent_table after size full =
-        let step = stepped_full k k (get_or trace i 0) (with_count at Y.count)
-        (lent Y.cache Y.marks Y.priorities Y.evicted x.pages x.numbers x.times) pages' numbers' times' moved told full in
-        tracing_full k k trace places i bundles loads _ _ Y.so_far h _ _ step lent_table after size refl
+      (told : AdvancedTo k k (get_or trace i 0) at x (table_with pages' numbers' times') (Some moved)) where
+    done : AdvancedBy k k (get_or trace i 0) at x moved
+    done = told.done_told
 
     -- the rule says what the request is
     kind_is : mark_kind k (get_or trace i 0)
@@ -108,32 +114,30 @@ module _ (k : ℕ) (trace : List ℕ) (places i bundles loads : ℕ) (at : Table
         let p = get_or trace i 0 in
         let holds = Y.so_far.holds in
         ap (λ (m : Marking). mark_kind k p m.cached) holds ∙ marking_whole k (take i trace) p Y.so_far.ready.table.sound.sizes.a_low
-        ∙ ap (λ (m : Marking). whole_kind (rule_in k m.clock.layers.s p m.clock.layers.rows)) (sym holds) ∙ ap whole_kind (sym told.rule_told)
+        ∙ ap (λ (m : Marking). whole_kind (rule_in k m.clock.layers.s p m.clock.layers.rows)) (sym holds) ∙ ap whole_kind (sym done.rule_told)
 
     -- the lists after the request are those that the buffer's definition gives
-    pub unkept_next : moved.full ≡ false → length trace ≤ 65536 → (answer b l : ℕ) → answer ≡ kind_number (whole_kind (rule_of moved.rule))
-        → b ≡ bit (eqb answer 2) → l ≡ bit (ltb 0 answer)
+    pub unkept_next : length trace ≤ 65536 → (outcome : Outcome) (b l : ℕ) → kind_of_outcome outcome ≡ whole_kind (rule_of moved.rule)
+        → b ≡ bit (is_bundled (kind_of_outcome outcome)) → l ≡ bit (is_load (kind_of_outcome outcome))
         → Unkept k trace places (i + 1) (bundles + b) (loads + l) moved.after (table_with pages' numbers' times')
-    unkept_next full few answer b l answer_is b-is l-is =
+    unkept_next few outcome b l outcome_is b-is l-is =
         let p = get_or trace i 0 in
         let y = lent Y.cache Y.marks Y.priorities Y.evicted x.pages x.numbers x.times in
         let joins = is_join (rule_of moved.rule) in
         let xs = (held_at (with_count at Y.count) y).cached in
         let after = mark_served k k joins p moved.priority xs in
         let evicted' = pick (is_bundled (mark_kind k p xs)) (pages_in (mark_bundle k (cleared joins xs)) ++ drop k Y.evicted) Y.evicted in
-        let same : answer ≡ kind_number (mark_kind k p xs) = answer_is ∙ ap kind_number (sym kind_is) in
-        let step = stepped_served k k p (with_count at Y.count) y pages' numbers' times' moved told full joins refl
+        let step = stepped_served k k p (with_count at Y.count) y pages' numbers' times' moved told joins refl
         (laid k (pages_in after) Y.cache) (laid k (marks_in after) Y.marks) (laid k (priorities_in after) Y.priorities) evicted'
-        (record { answer = kind_number (mark_kind k p xs); count = length after })
-        (record { answer_told = refl; count_told = refl; cache_told = refl; marks_told = refl; priorities_told = refl; evicted_told = refl }) in
+        (record { outcome = outcome; count = length after })
+        (record { outcome_told = outcome_is ∙ sym kind_is; count_told = refl; cache_told = refl; marks_told = refl; priorities_told = refl; evicted_told = refl }) in
         record {
           count = length after;
           cache = laid k (pages_in after) Y.cache;
           marks = laid k (marks_in after) Y.marks;
           priorities = laid k (priorities_in after) Y.priorities;
           evicted = evicted';
-          so_far = tracing_next k k trace places i bundles loads _ _ Y.so_far h _ _ step refl few b l
-              (b-is ∙ ap (λ (n : ℕ). bit (eqb n 2)) same) (l-is ∙ ap (λ (n : ℕ). bit (ltb 0 n)) same)
+          so_far = tracing_next k k trace places i bundles loads _ _ Y.so_far h _ _ step few b l b-is l-is
               (evicted_length k k p joins xs Y.evicted (omega arith) Y.so_far.ready.buffer.evicted_room);
         }
 
@@ -142,5 +146,5 @@ module _ (k : ℕ) (trace : List ℕ) (places i bundles loads : ℕ) (at : Table
 pub whole_ready : (k a : ℕ) (trace : List ℕ) (x : Table) → a ≡ k → TraceReady k a trace x → TraceReady k k trace x
 whole_ready k a trace x e R = subst (λ n. TraceReady k n trace x) e R
 
-pub whole_served : (k a : ℕ) (trace : List ℕ) (x left : Table) (r : Served) → a ≡ k → ServedOver k k trace x left r → ServedOver k a trace x left r
+pub whole_served : (k a : ℕ) (trace : List ℕ) (x left : Table) (r : Option MarkTotals) → a ≡ k → ServedOver k k trace x left r → ServedOver k a trace x left r
 whole_served k a trace x left r e told = subst (λ n. ServedOver k n trace x left r) (sym e) told

@@ -1,11 +1,13 @@
 -- One request of marking with RDM (document 02, request 09), for any record, count and lists: its refusals, and what it answers and leaves. A refusal is its
 -- number with zeros elsewhere, and changes nothing.
-use Rattle.std.specs.Prelude.{ℕ, ◌+◌, Bool, not, ◌≡◌, eqb, ltb, length}
+use Rattle.std.specs.Prelude.{ℕ, ◌+◌, Bool, not, Result, Ok, Err, ◌≡◌, eqb, ltb, length}
 use Rattle.lists.specs.Choice.{pick, ◌or◌}
 use Rattle.lists.specs.Pages.{bit}
+use Rattle.paging.specs.Numbers.{number_of, kind_of_outcome}
 use Rattle.paging.specs.Policy.{kind_number, is_bundled, is_load}
 use Rattle.paging.specs.Refusals.{full_counter, refuse, sizes_refusal}
 use Rattle.paging.specs.Table.{rule_in}
+use Rattle.paging.specs.declared.reasons.Refusal.{Refusal}
 use Rattle.layers.specs.Calls as layers_calls
 use Rattle.layers.specs.declared.LayersRun.{LayersRun}
 use Rattle.marking.specs.Marking.{mark_kind}
@@ -72,8 +74,14 @@ run_served run p m =
       layers = layers_served run.layers p m;
     }
 
--- 0 for a hit, 1 for a load, 2 for a load after a bundle, as for LRU
-abbrev pub reply_served : MarkRun → (count : ℕ) → Lent → (p : ℕ) → MarkReply
+-- what a request answers by number: a refusal, or the new record and count with 0 for a hit, 1 for a load and 2 for a load after a bundle, as for LRU
+pub record MarkReplyAnswer : Type 0 where
+  pub refusal : ℕ
+  pub run : MarkRun
+  pub count : ℕ
+  pub answer : ℕ
+
+abbrev pub reply_served : MarkRun → (count : ℕ) → Lent → (p : ℕ) → MarkReplyAnswer
 reply_served run count x p =
     record {
       refusal = 0;
@@ -82,12 +90,12 @@ reply_served run count x p =
       answer = kind_number (mark_kind run.k p (holding run count x).cached);
     }
 
-abbrev pub refused : (number : ℕ) → MarkReply
+abbrev pub refused : (number : ℕ) → MarkReplyAnswer
 refused number = record { refusal = number; run = empty_run 0 0; count = 0; answer = 0 }
 
 -- What the call answers, and the lists after it
 
-unfoldable pub reply_of : MarkRun → (count : ℕ) → Lent → (p : ℕ) → MarkReply
+unfoldable pub reply_of : MarkRun → (count : ℕ) → Lent → (p : ℕ) → MarkReplyAnswer
 reply_of run count x p =
     pick (eqb (request_refusal run count x p) 0) (reply_served run count x p) (refused (request_refusal run count x p))
 
@@ -95,6 +103,11 @@ unfoldable pub lent_after : MarkRun → (count : ℕ) → Lent → (p : ℕ) →
 lent_after run count x p =
     pick (eqb (request_refusal run count x p) 0) (lent_served run.k run.a p (holding run count x) x) x
 
+-- what the code's answer says
+abbrev pub mark_reply_answer : Result MarkReply Refusal → MarkReplyAnswer
+mark_reply_answer (Ok reply) = record { refusal = 0; run = reply.run; count = reply.count; answer = kind_number (kind_of_outcome reply.outcome) }
+mark_reply_answer (Err reason) = refused (number_of reason)
+
 -- the promise of a request: its answer, and the seven lists as it leaves them
-abbrev pub Answered : MarkRun → (count : ℕ) → Lent → (p : ℕ) → MarkReply → Lent → Type 0
-Answered run count x p reply left = (reply ≡ reply_of run count x p) × (left ≡ lent_after run count x p)
+abbrev pub Answered : MarkRun → (count : ℕ) → Lent → (p : ℕ) → Result MarkReply Refusal → Lent → Type 0
+Answered run count x p reply left = (mark_reply_answer reply ≡ reply_of run count x p) × (left ≡ lent_after run count x p)

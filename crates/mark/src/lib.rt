@@ -3,13 +3,13 @@
 #![tactic(auto)]
 
 ghost use Rattle.std.specs.Prelude.{◌≡◌};
-ghost use Rattle.mark.specs.Calls.{empty_run, refused, Answered};
+ghost use Rattle.mark.specs.Calls.{empty_run, Answered};
 ghost use Rattle.mark.specs.Lent.{lent};
-ghost use Rattle.mark.specs.Traces.{table_with, refused_totals, OverTrace};
+ghost use Rattle.mark.specs.Traces.{table_with, OverTrace};
 
-use crate::serving::Point;
+use crate::serving::{Point, TablePoint};
 use layers::LayersRun;
-use paging::Sizes;
+use paging::{Outcome, Refusal, Sizes};
 
 mod refusing;
 mod serving;
@@ -51,25 +51,12 @@ impl MarkRun {
     }
 }
 
-// What a request answers. Accepted: refusal 0, the new record and count, and 0 for a hit, 1 for a load, 2 for a load after a bundle.
-// Refused: the refusal's number, and zeros.
+// What an accepted request answers: the new record and count, and what the request did.
 #[derive(Clone, Copy)]
 pub struct MarkReply {
-    pub refusal: u32,
     pub run: MarkRun,
     pub count: u32,
-    pub answer: u32,
-}
-
-fn refused(number: u32) -> MarkReply
-    ensures { result ≡ refused number }
-{
-    MarkReply {
-        refusal: number,
-        run: MarkRun::empty(0, 0),
-        count: 0,
-        answer: 0,
-    }
+    pub outcome: Outcome,
 }
 
 // One request. The first `count` places of the first three lists are the cached pages, by page rising, with their marks and priorities; the evicted list
@@ -85,54 +72,39 @@ pub fn request(
     numbers: &mut [u32],
     times: &mut [u32],
     page: u32,
-) -> MarkReply
+) -> Result<MarkReply, Refusal>
     ensures { Answered run count
         (lent cache.old marks.old priorities.old evicted.old
         pages.old numbers.old times.old) page result
         (lent cache.new marks.new priorities.new evicted.new
         pages.new numbers.new times.new) }
 {
-    let judged = refusing::judge(
+    let revealed = refusing::judge(
         run, count, cache, marks, priorities, evicted, pages, numbers, times,
-    );
-    if judged.refusal != 0 {
-        return refused(judged.refusal);
-    }
-    let layers = run.layers;
-    let point = Point {
-        s: layers.s,
+    )?;
+    let table = TablePoint {
+        s: run.layers.s,
         t: run.t,
-        revealed: judged.revealed as usize,
+        revealed: revealed as usize,
         used: lists::find(numbers, 0),
+    };
+    let point = Point {
+        table,
         count: count as usize,
     };
-    let k = run.k;
-    let a = run.a;
-    let stepped = serving::step(
-        k, a, point, page, cache, marks, priorities, evicted, pages, numbers, times,
-    );
-    if stepped.full {
-        return refused(10);
-    }
-    serving::answered(run, stepped)
+    let Some(stepped) = serving::step(
+        run.k, run.a, point, page, cache, marks, priorities, evicted, pages, numbers, times,
+    ) else {
+        return Err(Refusal::TableFull);
+    };
+    Ok(serving::answered(run, stepped))
 }
 
-// A whole trace: bundles and loads; or the refusal's number, and zeros.
+// A whole trace: bundles and loads.
 #[derive(Clone, Copy)]
 pub struct MarkTotals {
-    pub refusal: u32,
     pub bundles: u32,
     pub loads: u32,
-}
-
-fn refused_totals(number: u32) -> MarkTotals
-    ensures { result ≡ refused_totals number }
-{
-    MarkTotals {
-        refusal: number,
-        bundles: 0,
-        loads: 0,
-    }
 }
 
 // Marking over a whole trace, into a layer table that is all unused, with t0 beside it. No request is checked: the state is proved to stay as it must.
@@ -143,22 +115,14 @@ pub fn over_trace(
     pages: &mut [u32],
     numbers: &mut [u32],
     times: &mut [u32],
-) -> MarkTotals
+) -> Result<MarkTotals, Refusal>
     ensures { OverTrace k a trace.now (table_with pages.old numbers.old times.old) result
         (table_with pages.new numbers.new times.new) }
 {
-    let no = trace::early_refusal(k, a, trace, pages, numbers, times);
-    if no != 0 {
-        return refused_totals(no);
-    }
-    let served = trace::serve_all(k, a, trace, pages, numbers, times);
-    if served.full {
+    trace::check(k, a, trace, pages, numbers, times)?;
+    let Some(totals) = trace::serve_all(k, a, trace, pages, numbers, times) else {
         trace::clear(pages, numbers, times);
-        return refused_totals(10);
-    }
-    MarkTotals {
-        refusal: 0,
-        bundles: served.bundles,
-        loads: served.loads,
-    }
+        return Err(Refusal::TableFull);
+    };
+    Ok(totals)
 }

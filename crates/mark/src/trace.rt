@@ -1,63 +1,43 @@
 // Marking over a whole trace: requests served one after the other from the empty buffer, with no check of the state.
 ghost use Rattle.std.specs.Prelude.{◌≡◌, length, replicate};
+ghost use Rattle.paging.specs.Numbers.{refusal_of};
 ghost use Rattle.mark.specs.Traces.{all_zero, early_refusal, table_with};
 ghost use Rattle.mark.specs.inner.Over.{TraceReady, ServedOver};
 
 use crate::serving::{Point, TablePoint};
-use crate::{MarkRun, serving};
-
-// What the requests of a trace came to: whether the table was too small on the way, bundles and loads.
-#[derive(Clone, Copy)]
-pub(crate) struct Served {
-    pub full: bool,
-    pub bundles: u32,
-    pub loads: u32,
-}
+use crate::{MarkRun, MarkTotals, serving};
+use paging::{Refusal, Sizes};
 
 // Whether every place holds zero. The whole list is looked at, several places at once.
 fn all_zero(list: &[u32]) -> bool
     ensures { result ≡ all_zero list.now }
 {
     let mut used = false;
-    let mut i = 0;
-    while i < list.len() {
-        used = used | (list[i] != 0);
-        i += 1;
+    for value in list {
+        used |= *value != 0;
     }
     !used
 }
 
-// The refusals that are judged before the first request, in order: 1, 2, 3, 8, 9; or 0.
-pub(crate) fn early_refusal(
+// The refusals that are judged before the first request, in order: 1, 2, 3, 8, 9.
+pub(crate) fn check(
     k: u32,
     a: u32,
     trace: &[u32],
     pages: &[u32],
     numbers: &[u32],
     times: &[u32],
-) -> u32
-    ensures { result ≡ early_refusal k a trace.now (table_with pages.now numbers.now times.now) 0 }
+) -> Result<(), Refusal>
+    ensures { refusal_of result ≡ early_refusal k a trace.now (table_with pages.now numbers.now times.now) 0 }
 {
-    let no = paging::Sizes { k, a }.trace_refusal(trace);
-    if no != 0 {
-        return no;
+    Sizes { k, a }.check_trace(trace)?;
+    if numbers.len() != pages.len() || times.len() != pages.len() {
+        return Err(Refusal::TooLittleRoom);
     }
-    if numbers.len() != pages.len() {
-        return 8;
+    if !all_zero(pages) || !all_zero(numbers) || !all_zero(times) {
+        return Err(Refusal::IllFormed);
     }
-    if times.len() != pages.len() {
-        return 8;
-    }
-    if all_zero(pages) {} else {
-        return 9;
-    }
-    if all_zero(numbers) {} else {
-        return 9;
-    }
-    if all_zero(times) {
-        return 0;
-    }
-    9
+    Ok(())
 }
 
 // The requests of a trace on a table that is all unused, with the buffer beside it. It stops at the first request after which there would be too many pages.
@@ -68,7 +48,7 @@ fn serve_buffered(
     pages: &mut [u32],
     numbers: &mut [u32],
     times: &mut [u32],
-) -> Served
+) -> Option<MarkTotals>
     requires { TraceReady k a trace.now (table_with pages.old numbers.old times.old) }
     ensures { ServedOver k a trace.now (table_with pages.old numbers.old times.old)
         (table_with pages.new numbers.new times.new) result }
@@ -77,22 +57,21 @@ fn serve_buffered(
     let mut marks = [0u32; MarkRun::K_MAX as usize];
     let mut priorities = [0u64; MarkRun::K_MAX as usize];
     let mut evicted = [0u32; MarkRun::K_MAX as usize];
-    let mut point = Point {
+    let table = TablePoint {
         s: 0,
         t: 0,
         revealed: 0,
         used: 0,
-        count: 0,
     };
+    let mut point = Point { table, count: 0 };
     let mut bundles = 0;
     let mut loads = 0;
-    let mut i = 0;
-    while i < trace.len() {
+    for page in trace {
         let stepped = serving::step(
             k,
             a,
             point,
-            trace[i],
+            *page,
             &mut cache,
             &mut marks,
             &mut priorities,
@@ -100,24 +79,12 @@ fn serve_buffered(
             pages,
             numbers,
             times,
-        );
-        if stepped.full {
-            return Served {
-                full: true,
-                bundles: 0,
-                loads: 0,
-            };
-        }
-        bundles += serving::bundles(stepped.answer);
-        loads += serving::loads(stepped.answer);
+        )?;
+        bundles += serving::bundles(stepped.outcome);
+        loads += serving::loads(stepped.outcome);
         point = stepped.after;
-        i += 1;
     }
-    Served {
-        full: false,
-        bundles,
-        loads,
-    }
+    Some(MarkTotals { bundles, loads })
 }
 
 // The same where a = k. A bundle then takes all k pages, so that the cached pages are those that have a row in the table: no buffer is kept, and the layers'
@@ -128,7 +95,7 @@ fn serve_whole_bundles(
     pages: &mut [u32],
     numbers: &mut [u32],
     times: &mut [u32],
-) -> Served
+) -> Option<MarkTotals>
     requires { TraceReady k k trace.now (table_with pages.old numbers.old times.old) }
     ensures { ServedOver k k trace.now (table_with pages.old numbers.old times.old)
         (table_with pages.new numbers.new times.new) result }
@@ -141,28 +108,14 @@ fn serve_whole_bundles(
     };
     let mut bundles = 0;
     let mut loads = 0;
-    let mut i = 0;
-    while i < trace.len() {
-        let moved = serving::advance(k, k, point, trace[i], pages, numbers, times);
-        if moved.full {
-            return Served {
-                full: true,
-                bundles: 0,
-                loads: 0,
-            };
-        }
-        let rule = moved.rule;
-        let answer = serving::whole_answer(rule);
-        bundles += serving::bundles(answer);
-        loads += serving::loads(answer);
+    for page in trace {
+        let moved = serving::advance(k, k, point, *page, pages, numbers, times)?;
+        let outcome = serving::whole_outcome(moved.rule);
+        bundles += serving::bundles(outcome);
+        loads += serving::loads(outcome);
         point = moved.after;
-        i += 1;
     }
-    Served {
-        full: false,
-        bundles,
-        loads,
-    }
+    Some(MarkTotals { bundles, loads })
 }
 
 // Serves a trace on a table that is all unused.
@@ -173,7 +126,7 @@ pub(crate) fn serve_all(
     pages: &mut [u32],
     numbers: &mut [u32],
     times: &mut [u32],
-) -> Served
+) -> Option<MarkTotals>
     requires { TraceReady k a trace.now (table_with pages.old numbers.old times.old) }
     ensures { ServedOver k a trace.now (table_with pages.old numbers.old times.old)
         (table_with pages.new numbers.new times.new) result }
@@ -189,7 +142,7 @@ pub(crate) fn clear(pages: &mut [u32], numbers: &mut [u32], times: &mut [u32])
     ensures { (pages.new ≡ replicate (length pages.old) 0) × (numbers.new ≡ replicate (length numbers.old) 0)
         × (times.new ≡ replicate (length times.old) 0) }
 {
-    lists::moves::fill_zero(pages);
-    lists::moves::fill_zero(numbers);
-    lists::moves::fill_zero(times);
+    pages.fill(0);
+    numbers.fill(0);
+    times.fill(0);
 }

@@ -1,36 +1,26 @@
-use mathlib.Core.Path.{sym, ◌∙◌}
-use Rattle.mark.proofs.Blank.{refused_over, early_over, trace_ready, over_full, over_done}
+use mathlib.Core.Path.{◌≡◌, ap, ◌∙◌}
+use Rattle.std.specs.Prelude.{Err, None}
+use Rattle.std.proofs.lemmas.Result.{err_from_is_err_and}
+use Rattle.layers.proofs.Refusing.{none_left}
+use Rattle.mark.proofs.Blank.{early_reason, trace_ready, over_full, over_done}
 use Rattle.mark.proofs.over_trace.Goals as goal
 
-pub returns-then-no-ne0 : goal.returns-then-no-ne0
-returns-then-no-ne0 c =
-    let early-refusal = c.early_refusal-no in
-    let if1 = c.if-no-ne0 in
-    let refused-totals = c.refused_totals in
-    let t = refused_over _ _ _ _ _ (early_over _ _ _ _ _ early-refusal.ensures if1.true) if1.true in
-    (refused-totals.ensures ∙ t.0, t.1)
+pub returns-in_err-check : goal.returns-in_err-check
+returns-in_err-check c =
+    let r = err_from_is_err_and c.from_residual.result c.from_residual.ensures.1 in
+    let reason = c.in_err-check.field-0.0 in
+    let e : c.from_residual.result ≡ Err reason = r.1 ∙ ap Err r.2 in
+    rw e (early_reason _ _ _ _ reason c.in_err-check.ensures)
 
-pub serve_all-served-requires : goal.serve_all-served-requires
-serve_all-served-requires c =
-    let early-refusal = c.early_refusal-no in
-    let if1 = c.if-no-ne0 in
-    trace_ready _ _ _ _ (sym if1.false ∙ early-refusal.ensures)
+pub serve_all-requires : goal.serve_all-requires
+serve_all-requires c = trace_ready _ _ _ _ c.in_ok-check.ensures
 
-pub returns-then-served : goal.returns-then-served
-returns-then-served c =
-    let early-refusal = c.early_refusal-no in
-    let if1 = c.if-no-ne0 in
-    let serve-all = c.serve_all-served in
-    let if2 = c.if-served in
-    let clear = c.clear in
-    let refused-totals2 = c.refused_totals-then-served in
-    over_full _ _ _ _ (sym if1.false ∙ early-refusal.ensures) _ serve-all.result serve-all.ensures _ _ _ _ _ _ if2.true serve-all.auto.pages
-    serve-all.auto.numbers serve-all.auto.times clear.ensures.0 clear.ensures.1 clear.ensures.2 _ refused-totals2.ensures
+pub returns-in_default : goal.returns-in_default
+returns-in_default c =
+    let served = c.serve_all in
+    let none : served.result ≡ None = none_left _ c.in_default.not-Some in
+    over_full _ _ _ _ c.in_ok-check.ensures _ _ _ _ _ _ _ (rw none at served.ensures)
+    served.auto.pages served.auto.numbers served.auto.times c.clear.ensures.0 c.clear.ensures.1 c.clear.ensures.2
 
 pub returns : goal.returns
-returns c =
-    let early-refusal = c.early_refusal-no in
-    let if1 = c.if-no-ne0 in
-    let serve-all = c.serve_all-served in
-    let if2 = c.if-served in
-    over_done _ _ _ _ (sym if1.false ∙ early-refusal.ensures) _ serve-all.result serve-all.ensures if2.false
+returns c = over_done _ _ _ _ c.in_ok-check.ensures _ c.in-Some.totals c.in-Some.ensures

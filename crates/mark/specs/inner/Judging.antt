@@ -1,13 +1,18 @@
 -- What the function that judges a request promises.
-use Rattle.std.specs.Prelude.{ℕ, ◌<◌, ◌≡◌}
+use Rattle.std.specs.Prelude.{ℕ, ◌<◌, Result, IfOk, ◌≡◌}
+use Rattle.paging.specs.Numbers.{refusal_of}
 use Rattle.paging.specs.Refusals.{full_counter}
 use Rattle.paging.specs.Table.{revealed}
+use Rattle.paging.specs.declared.reasons.Refusal.{Refusal}
 use Rattle.mark.specs.Calls.{state_refusal}
 use Rattle.mark.specs.Lent.{Lent, rows_in}
 use Rattle.mark.specs.declared.MarkRun.{MarkRun}
-use Rattle.mark.specs.declared.refusing.Judged.{Judged}
 
-pub record JudgedTo (run : MarkRun) (count : ℕ) (x : Lent) (r : Judged) : Type 0 where
-  pub refusal_told : r.refusal ≡ state_refusal run count x 0
-  pub revealed_told : r.refusal ≡ 0 → r.revealed ≡ revealed run.layers.s (rows_in x)
-  pub more : r.refusal ≡ 0 → run.requests < full_counter
+-- where nothing is refused: how many pages are revealed
+pub record Passed (run : MarkRun) (x : Lent) (shown : ℕ) : Type 0 where
+  pub revealed_told : shown ≡ revealed run.layers.s (rows_in x)
+  pub more : run.requests < full_counter
+
+pub record JudgedTo (run : MarkRun) (count : ℕ) (x : Lent) (r : Result ℕ Refusal) : Type 0 where
+  pub refusal_told : refusal_of r ≡ state_refusal run count x 0
+  pub passed : IfOk r (λ shown. Passed run x shown)

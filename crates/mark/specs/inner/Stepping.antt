@@ -1,9 +1,10 @@
 -- What a request asks of a state that was judged, or that a trace has led to, and what it then does.
-use Rattle.std.specs.Prelude.{ℕ, ◌+◌, ◌-◌, ◌≤◌, ◌<◌, false, List, ◌≡◌, eqb, ltb, length, take, drop, get_or, replicate}
+use Rattle.std.specs.Prelude.{ℕ, ◌+◌, ◌-◌, ◌≤◌, ◌<◌, List, Option, is_none, IfSome, ◌≡◌, ltb, length, take, drop, get_or, replicate}
 use Rattle.lists.specs.Choice.{pick}
 use Rattle.lists.specs.Pages.{bit}
 use Rattle.lists.specs.Sorting.{Row}
-use Rattle.paging.specs.Policy.{kind_number}
+use Rattle.paging.specs.Numbers.{kind_of_outcome}
+use Rattle.paging.specs.Policy.{is_bundled, is_load}
 use Rattle.paging.specs.Refusals.{full_counter}
 use Rattle.paging.specs.Rows.{rows_of, numbers_of, pages_of, used_rows, table_of}
 use Rattle.paging.specs.Table.{rule_in, revealed}
@@ -70,47 +71,54 @@ table_served k a p at x =
     let places = length x.pages in
     table_with (pages_of (table_of places rows)) (numbers_of (table_of places rows)) (times_of places rows c.times)
 
-pub record AdvancedTo (k a p : ℕ) (at : TablePoint) (x left : Table) (r : Advanced) : Type 0 where
-  pub full_told : r.full ≡ ltb (length x.pages) (length (clock_next k a p (clock_at at x)).layers.rows)
-  pub table_told : left ≡ pick r.full x (table_served k a p at x)
-  pub rule_told : rule_of r.rule ≡ rule_in k at.s p (rows_used x)
-  pub point_told : r.full ≡ false → r.after ≡ table_point_after k a p at x
-  pub priority_told : r.priority ≡ priority_next p (clock_at at x)
+-- where it has room: what the request did
+pub record AdvancedBy (k a p : ℕ) (at : TablePoint) (x : Table) (moved : Advanced) : Type 0 where
+  pub rule_told : rule_of moved.rule ≡ rule_in k at.s p (rows_used x)
+  pub point_told : moved.after ≡ table_point_after k a p at x
+  pub priority_told : moved.priority ≡ priority_next p (clock_at at x)
+
+pub record AdvancedTo (k a p : ℕ) (at : TablePoint) (x left : Table) (r : Option Advanced) : Type 0 where
+  pub full_told : is_none r ≡ ltb (length x.pages) (length (clock_next k a p (clock_at at x)).layers.rows)
+  pub table_told : left ≡ pick (is_none r) x (table_served k a p at x)
+  pub done_told : IfSome r (λ moved. AdvancedBy k a p at x moved)
 
 -- All seven lists
 
 abbrev pub table_in : Lent → Table
 table_in x = table_with x.pages x.numbers x.times
 
-abbrev pub table_point : Point → TablePoint
-table_point at = record { s = at.s; t = at.t; revealed = at.revealed; used = at.used }
-
 pub record StepReady (k a : ℕ) (at : Point) (x : Lent) : Type 0 where
   pub buffer : BufferReady k a at.count x.cache x.marks x.priorities x.evicted
-  pub table : TableReady k a (table_point at) (table_in x)
+  pub table : TableReady k a at.table (table_in x)
 
 -- what the lists hold
 abbrev pub held_at : Point → Lent → Marking
-held_at at x = held_in at.s 0 at.t at.count x
+held_at at x = held_in at.table.s 0 at.table.t at.count x
 
 -- the state after a request for p
 abbrev pub point_after : (k a p : ℕ) → Point → Lent → Point
 point_after k a p at x =
     let m = marking_next k a p (held_at at x) in
     record {
-      s = m.clock.layers.s;
-      t = m.clock.t;
-      revealed = revealed m.clock.layers.s m.clock.layers.rows;
-      used = length m.clock.layers.rows;
+      table = record {
+        s = m.clock.layers.s;
+        t = m.clock.t;
+        revealed = revealed m.clock.layers.s m.clock.layers.rows;
+        used = length m.clock.layers.rows;
+      };
       count = length m.cached;
     }
 
-pub record SteppedTo (k a p : ℕ) (at : Point) (x left : Lent) (r : Stepped) : Type 0 where
-  pub full_told : r.full ≡ ltb (length x.pages) (length (marking_next k a p (held_at at x)).clock.layers.rows)
-  pub lists_told : left ≡ pick r.full x (lent_served k a p (held_at at x) x)
-  pub rule_told : rule_of r.rule ≡ rule_in k at.s p (rows_in x)
-  pub point_told : r.full ≡ false → r.after ≡ point_after k a p at x
-  pub answer_told : r.full ≡ false → r.answer ≡ kind_number (mark_kind k p (held_at at x).cached)
+-- where the table has room: what the request did
+pub record SteppedBy (k a p : ℕ) (at : Point) (x : Lent) (t : Stepped) : Type 0 where
+  pub rule_told : rule_of t.rule ≡ rule_in k at.table.s p (rows_in x)
+  pub point_told : t.after ≡ point_after k a p at x
+  pub outcome_told : kind_of_outcome t.outcome ≡ mark_kind k p (held_at at x).cached
+
+pub record SteppedTo (k a p : ℕ) (at : Point) (x left : Lent) (r : Option Stepped) : Type 0 where
+  pub full_told : is_none r ≡ ltb (length x.pages) (length (marking_next k a p (held_at at x)).clock.layers.rows)
+  pub lists_told : left ≡ pick (is_none r) x (lent_served k a p (held_at at x) x)
+  pub done_told : IfSome r (λ t. SteppedBy k a p at x t)
 
 -- the counters of a record can rise by one
 pub record AnswerReady (run : MarkRun) : Type 0 where
@@ -123,16 +131,15 @@ pub record AnswerReady (run : MarkRun) : Type 0 where
 abbrev pub answered_by : MarkRun → Stepped → MarkReply
 answered_by run r =
     record {
-      refusal = 0;
       run = record {
         k = run.k;
         a = run.a;
         requests = run.requests + 1;
-        loads = run.loads + bit (ltb 0 r.answer);
-        evictions = run.evictions + bit (eqb r.answer 2);
-        t = r.after.t;
-        layers = (layers_calls.reply_by (rule_of r.rule) r.after.s run.layers).run;
+        loads = run.loads + bit (is_load (kind_of_outcome r.outcome));
+        evictions = run.evictions + bit (is_bundled (kind_of_outcome r.outcome));
+        t = r.after.table.t;
+        layers = (layers_calls.reply_by (rule_of r.rule) r.after.table.s run.layers).run;
       };
       count = r.after.count;
-      answer = r.answer;
+      outcome = r.outcome;
     }
