@@ -1,13 +1,12 @@
 use Rattle.std.proofs.Common.{arith}
-use Rattle.std.proofs.lemmas.Grind.{common_steps}
 use Rattle.lists.specs.Choice.{◌and◌}
 use Rattle.mark.specs.Formed.{buffer_formed}
 use Rattle.mark.proofs.refusing.buffer_formed.Goals as goal
 
 pub returns-then-rises : goal.returns-then-rises
 unfolding buffer_formed ◌and◌
-returns-then-rises c = grind (arith, common_steps)
+returns-then-rises c = grind arith
 
 pub returns-else-rises : goal.returns-else-rises
 unfolding buffer_formed ◌and◌
-returns-else-rises c = grind (arith, common_steps)
+returns-else-rises c = grind arith
