@@ -2,9 +2,12 @@
 use Prim.Native.Nat.{ℕ, zero, suc, ◌+◌, ◌*◌, ◌-◌, ◌≤◌, ◌<◌}
 use native.Mathlib.Omega.{arith}
 use mathlib.Core.List.{List, [], ◌++◌, append_assoc}
+use Rattle.std.specs.Prelude.{Result, Ok, Err}
 use mathlib.Core.Path.{◌≡◌, refl, sym, ap, ◌∙◌}
 use lib.ListN.{length, replicate}
 use borrow.Author.Tests.{ne_eqb}
+use Rattle.paging.specs.Numbers.{number_of}
+use Rattle.paging.specs.declared.reasons.Refusal.{Refusal}
 use Rattle.reading.specs.Answers.{trace_answer}
 use Rattle.reading.specs.Files.{File, requests_from}
 use Rattle.reading.specs.Reading.{read_trace}
@@ -14,10 +17,9 @@ use Rattle.reading.specs.declared.TraceRecord.TheVariants as traced
 use Rattle.reading.proofs.Facts.{trace_says}
 use Rattle.reading.proofs.Walk.{requests_ended, requests_request}
 use Rattle.traces.specs.inner.Counting.{counted_in}
-use Rattle.traces.proofs.CountLaws.{Counting, counting_first, too_many, counting_next, counted_all, counted_damage, counted_says}
+use Rattle.traces.proofs.CountLaws.{Counting, request_fact, too_many, counting_next, counted_all, counted_damage, counted_says, no_sizes}
 use Rattle.editions.specs.Editions.{longest_rr}
 use Rattle.editions.specs.declared.measure.LastRun.{LastRun}
-use Rattle.editions.specs.declared.measure.Measured.{Measured}
 use Rattle.editions.specs.inner.Measuring.{Added, last_length, measured_in}
 use Rattle.editions.specs.inner.Turning.{new_behind}
 use Rattle.editions.proofs.Lengths.{cost, cost_is, no_run_left, in_front_lem}
@@ -112,9 +114,6 @@ pub record MeasuringAt (file : List ℕ) (most at n : ℕ) (last : LastRun) : Ty
   pub small : last.size ≤ 6 + 8 * n
   pub sum : last.size + length (new_behind (replicate last.times last.page ++ (requests_from file at).held)) ≡ 6 + length (new_behind (requests_from file 6).held)
 
-pub measuring_first : (file : List ℕ) (most : ℕ) → MeasuringAt file most 6 0 (last_run 0 0 6)
-measuring_first file most = record { counting = counting_first file most; few = omega arith; small = omega arith; sum = refl }
-
 measured_none : (most n size : ℕ) (file : File ℕ) → record { refusal = 0; requests = n } ≡ counted_in most file → size ≡ 6 + length (new_behind file.held)
     → record { refusal = 0; requests = n; length = size } ≡ measured_in most file
 measured_none most n size file c e =
@@ -129,38 +128,41 @@ measured_no most number file c some =
     let no = (counted_says most file number 0 c).0 in
     rw (← no, ne_eqb number 0 some)
 
-module _ (file : List ℕ) (most at n : ℕ) (last : LastRun) (m : MeasuringAt file most at n last) (limit : most ≤ 65536) (r : TraceRecord)
-    (e : trace_answer r ≡ read_trace file at) where
-  pub size_fits : last.size ≤ 1000000
-  size_fits =
+module _ (file : List ℕ) (most at n : ℕ) (last : LastRun) (m : MeasuringAt file most at n last) where
+  pub size_fits : most ≤ 65536 → last.size ≤ 1000000
+  size_fits limit =
       let small = m.small in
       let few = m.counting.few in
       omega arith
 
-  pub measured_too_many : (page times next : ℕ) → r ≡ traced.Request page times next → most - n < times
-      → record { refusal = 3; requests = 0; length = 0 } ≡ measured_in most (requests_from file 6)
-  measured_too_many page times next q h =
-      measured_no most 3 (requests_from file 6) (too_many file most at n m.counting r e page times next q h) (λ z. omega arith)
+  module _ (r : Result TraceRecord Refusal) (e : trace_answer r ≡ read_trace file at) where
+    module _ (page times next : ℕ) (q : r ≡ Ok (traced.Request page times next)) where
+      pub measured_too_many : most - n < times → record { refusal = 3; requests = 0; length = 0 } ≡ measured_in most (requests_from file 6)
+      measured_too_many h = measured_no most 3 (requests_from file 6) (too_many file most at n m.counting r e page times next q h) (λ z. omega arith)
 
-  pub measuring_next : (page times next : ℕ) → r ≡ traced.Request page times next → times ≤ most - n → 0 < times → (after : LastRun) → Added last page times after
-      → MeasuringAt file most next (n + times) after
-  measuring_next page times next q h some after added =
-      let run = requests_request file at page times next (sym e ∙ ap trace_answer q) in
-      let held = ap (λ (f : File ℕ). length (new_behind (replicate last.times last.page ++ f.held))) run in
-      let same = added.same (requests_from file next).held in
-      let sum = m.sum in
-      let small = m.small in
-      let grows = added.grows in
-      record { counting = counting_next file most at n m.counting r e page times next q h; few = added.few; small = omega arith; sum = omega arith }
+      pub measuring_next : times ≤ most - n → (after : LastRun) → Added last page times after → MeasuringAt file most next (n + times) after
+      measuring_next h after added =
+          let some = (request_fact file most at n m.counting r e page times next q).some in
+          let run = requests_request file at page times next (sym e ∙ ap trace_answer q) in
+          let held = ap (λ (f : File ℕ). length (new_behind (replicate last.times last.page ++ f.held))) run in
+          let same = added.same (requests_from file next).held in
+          let sum = m.sum in
+          let small = m.small in
+          let grows = added.grows in
+          record { counting = counting_next file most at n m.counting r e page times next q h; few = added.few; small = omega arith; sum = omega arith }
 
-  pub measured_all : r ≡ traced.End → (out : Measured) → out ≡ record { refusal = 0; requests = n; length = last.size + last_length last.times }
-      → out ≡ measured_in most (requests_from file 6)
-  measured_all q out is =
-      let none = ap (λ (f : File ℕ). length (new_behind (replicate last.times last.page ++ f.held))) (requests_ended file at (sym e ∙ ap trace_answer q)) in
-      let end = alone last.page last.times m.few in
-      let sum = m.sum in
-      is ∙ measured_none most n (last.size + last_length last.times) (requests_from file 6) (counted_all file most at n m.counting r e q) (omega arith)
+    pub measured_damage : (x : Refusal) → r ≡ Err x → record { refusal = number_of x; requests = 0; length = 0 } ≡ measured_in most (requests_from file 6)
+    measured_damage x q =
+        measured_no most (number_of x) (requests_from file 6) (counted_damage file most at n m.counting r e x q)
+        (trace_says file at (reading.refused (number_of x)) (sym e ∙ ap trace_answer q))
 
-  pub measured_damage : (x : ℕ) → r ≡ traced.Refused x → (out : Measured) → out ≡ record { refusal = x; requests = 0; length = 0 } → out ≡ measured_in most (requests_from file 6)
-  measured_damage x q out is =
-      is ∙ measured_no most x (requests_from file 6) (counted_damage file most at n m.counting r e x q) (trace_says file at (reading.refused x) (sym e ∙ ap trace_answer q))
+    -- what is no request is the end
+    pub measured_all : (found : TraceRecord) → r ≡ Ok found → ((page times next : ℕ) → found ≡ traced.Request page times next → ⊥)
+        → (more : ℕ) → more ≡ last_length last.times → record { refusal = 0; requests = n; length = last.size + more } ≡ measured_in most (requests_from file 6)
+    measured_all (traced.Sizes k a next) q other more is = absurd (no_sizes file most at n m.counting r e k a next q)
+    measured_all (traced.Request page times next) q other more is = absurd (other page times next refl)
+    measured_all traced.End q other more is =
+        let none = ap (λ (f : File ℕ). length (new_behind (replicate last.times last.page ++ f.held))) (requests_ended file at (sym e ∙ ap trace_answer q)) in
+        let end = alone last.page last.times m.few in
+        let sum = m.sum in
+        measured_none most n (last.size + more) (requests_from file 6) (counted_all file most at n m.counting r e q) (omega arith)

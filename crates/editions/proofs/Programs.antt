@@ -11,9 +11,8 @@ use Rattle.lists.proofs.Choice.{cases}
 use Rattle.traces.specs.Traces.{TraceFile, whole, damaged, trace_file}
 use Rattle.traces.proofs.Prefix.{nothing_behind_counts}
 use Rattle.traces.proofs.Whole.{file_says}
-use Rattle.editions.specs.Calls.{Edition, converted_of, bytes_after, program_requests, file_refusal, ReadEnough, RoomEnough, OutputInside}
+use Rattle.editions.specs.Calls.{Edition, ConvertedAnswer, converted_of, bytes_after, program_requests, file_refusal, ReadEnough, RoomEnough, OutputInside}
 use Rattle.editions.specs.Editions.{old_bytes, new_bytes}
-use Rattle.editions.specs.declared.Converted.{Converted}
 use Rattle.editions.proofs.Lengths.{old_length, new_never_longer}
 
 -- not longer than one RQ a request
@@ -29,7 +28,7 @@ new_is_short k a pages =
     let n = new_never_longer k a pages in
     omega arith
 
-module _ (edition : Edition) (short : Short edition) (input out after : List ℕ) (r : Converted)
+module _ (edition : Edition) (short : Short edition) (input out after : List ℕ) (r : ConvertedAnswer)
     (e : (r ≡ converted_of edition (trace_file program_requests input) out) × (after ≡ bytes_after edition (trace_file program_requests input) out)) where
   read_enough : ReadEnough 32782 edition input out after r
   read_enough h more =
@@ -44,7 +43,7 @@ module _ (edition : Edition) (short : Short edition) (input out after : List ℕ
       rw (le-ltb (length out) (length (edition k a pages)) (omega arith))
 
   room_enough : RoomEnough 24582 input out r
-  room_enough h = ap (λ (x : Converted). x.refusal) e.0 ∙ fits (trace_file program_requests input) refl h
+  room_enough h = ap (λ (x : ConvertedAnswer). x.refusal) e.0 ∙ fits (trace_file program_requests input) refl h
 
   inside : (x : TraceFile) → ((converted_of edition x out).length ≤ length (bytes_after edition x out))
   inside (damaged number) = omega arith

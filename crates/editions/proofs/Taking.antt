@@ -7,33 +7,29 @@ use lib.ListN.{length, replicate, length-append, length-replicate}
 use Rattle.reading.specs.Files.{File, before, requests_from}
 use Rattle.cursor.specs.Cursor.{Begun, requests_left}
 use Rattle.cursor.specs.declared.Rest.{Rest}
-use Rattle.cursor.proofs.Laws.{rest, at_a_record}
+use Rattle.cursor.proofs.Laws.{rest}
 use Rattle.editions.specs.Editions.{longest_rr}
 use Rattle.editions.specs.inner.Turning.{Ends, Passing, RunTaken}
 use Rattle.editions.proofs.RunRecords.{replicate_add, replicate_parts, ends_at_other, ends_full}
 
 -- ---- the run that is begun
 
-pub begun_there : (file : List ℕ) (left : Rest) → left.times ≤ 0 → (found : Rest) → Begun found × (requests_from file left.from ≡ requests_left file found)
-    → Begun found × (requests_left file left ≡ requests_left file found)
-begun_there file left none found f = (f.0, at_a_record file left none ∙ f.1)
-
 pub record InRun (file : List ℕ) (left : Rest) (n page times from : ℕ) : Type 0 where
   pub begun : Begun (rest page times from)
   pub same : requests_left file left ≡ requests_left file (rest page times from)
   pub size : length (requests_left file (rest page times from)).held ≡ n
 
-module _ (file : List ℕ) (left : Rest) (n : ℕ) (p : Passing file n 0 left) (first : Rest) (f : Begun first × (requests_left file left ≡ requests_left file first)) where
-  pub run_first : InRun file first n first.page first.times first.from
-  run_first =
+module _ (file : List ℕ) (left : Rest) (n : ℕ) (p : Passing file n 0 left) (first : Rest) (e : requests_left file left ≡ requests_left file first) where
+  pub run_first : Begun first → InRun file first n first.page first.times first.from
+  run_first b =
       let size = p.size in
-      let kept = ap (λ (x : File ℕ). length x.held) f.1 in
-      record { begun = f.0; same = refl; size = omega arith }
+      let kept = ap (λ (x : File ℕ). length x.held) e in
+      record { begun = b; same = refl; size = omega arith }
 
   -- what is taken from it is taken from what was left before the record was read
   pub taken_before : (page times : ℕ) (behind : Rest) → RunTaken file first page times behind → RunTaken file left page times behind
   taken_before page times behind t =
-      record { some = t.some; few = t.few; started = t.started; small = t.small; taken = f.1 ∙ t.taken; ends = t.ends }
+      record { some = t.some; few = t.few; started = t.started; small = t.small; taken = e ∙ t.taken; ends = t.ends }
 
 -- ---- and how it goes on
 

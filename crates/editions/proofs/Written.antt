@@ -2,7 +2,7 @@
 -- all requests, a record for each run.
 use Prim.Native.Nat.{ℕ, zero, suc, ◌+◌, ◌*◌, ◌-◌, ◌≤◌, ◌<◌}
 use native.Mathlib.Omega.{arith}
-use mathlib.Core.List.{List, [], ◌∷◌, ◌++◌, append_assoc, append-nil}
+use mathlib.Core.List.{List, [], ◌∷◌, ◌++◌, append_assoc}
 use mathlib.Core.Path.{◌≡◌, refl, sym, ap, ◌∙◌}
 use lib.ListN.{length, replicate, length-append, length-replicate}
 use borrow.Author.Tests.{ne_eqb}
@@ -65,9 +65,6 @@ pub same_first : (page times : ℕ) (out : List ℕ) (from : ℕ) → from + 6 *
 same_first page times out from h = let l = same_size times page in writing_first out from (joined rq_bytes (replicate times page)) (omega arith)
 
 module _ (page times : ℕ) (out₀ out : List ℕ) (from at left : ℕ) (w : WritingSame page times out₀ out from at left) where
-  pub same_fits : 0 < left → at + 6 ≤ length out
-  same_fits h = next_fits out₀ out from at _ _ w (rq_bytes page) _ (one_of_same left page h)
-
   pub same_next : 0 < left → (out' : List ℕ) → out' ≡ placed out at (rq_bytes page) → WritingSame page times out₀ out' from (at + 6) (left - 1)
   same_next h out' p = writing_next out₀ out from at _ _ w (rq_bytes page) _ (one_of_same left page h) out' (at + 6) p refl
 
@@ -78,15 +75,6 @@ module _ (page times : ℕ) (out₀ out : List ℕ) (from at left : ℕ) (w : Wr
       let l = same_size times page in
       let at-is = done.0 in
       (omega arith, done.1)
-
--- a single one
-module _ (page times from : ℕ) (out : List ℕ) (one : times ≡ 1) (room : from + 6 * times ≤ length out) where
-  pub single_room : from + 6 ≤ length out
-  single_room = omega arith
-
-  pub single_same : (out' : List ℕ) → out' ≡ placed out from (rq_bytes page)
-      → (from + 6 ≡ from + 6 * times) × (out' ≡ placed out from (joined rq_bytes (replicate times page)))
-  single_same out' p = (omega arith, rw one (p ∙ ap (placed out from) (sym (append-nil (rq_bytes page)))))
 
 -- ---- RQs of all requests
 
@@ -116,9 +104,6 @@ unfolding requests_left
 held_is file left = refl
 
 module _ (file : List ℕ) (n : ℕ) (out₀ out : List ℕ) (from at i : ℕ) (w : WritingSingles file n out₀ out from at i) where
-  pub singles_there : i < n → (0 < from) × (0 < length (requests_from file from).held)
-  singles_there h = let size = w.size in (w.started, omega arith)
-
   module _ (found : Rest) (f : Begun found × (requests_from file from ≡ requests_left file found)) where
     held : (requests_from file from).held ≡ replicate found.times found.page ++ (requests_from file found.from).held
     held = ap (λ (x : File ℕ). x.held) f.1 ∙ held_is file found
@@ -139,9 +124,6 @@ module _ (file : List ℕ) (n : ℕ) (out₀ out : List ℕ) (from at i : ℕ) (
         = ap length held ∙ simp (length-append, length-replicate) in
         omega arith
 
-    pub singles_few : i + found.times ≤ n
-    singles_few = let p = passed in omega arith
-
     pub singles_next : (at' : ℕ) (out' : List ℕ) → at' ≡ at + 6 * found.times → out' ≡ placed out at (joined rq_bytes (replicate found.times found.page))
         → WritingSingles file n out₀ out' found.from at' (i + found.times)
     singles_next at' out' q p =
@@ -151,11 +133,6 @@ module _ (file : List ℕ) (n : ℕ) (out₀ out : List ℕ) (from at i : ℕ) (
           size = passed;
           writing = writing_next out₀ out 6 at _ _ w.writing (joined rq_bytes (replicate found.times found.page)) _ to_come out' at' p (omega arith);
         }
-
-  pub singles_done : n ≤ i → out ≡ placed out₀ 6 (old_behind (requests_from file 6).held)
-  singles_done h =
-      let size = w.size in
-      (writing_done out₀ out 6 at _ _ w.writing (ap old_behind (empty (requests_from file from).held (omega arith)))).1
 
 -- ---- a run's record
 
@@ -185,9 +162,6 @@ start_is : (file : List ℕ) → new_behind (requests_left file (rest 0 0 6)).he
 start_is file = ap (λ (x : File ℕ). new_behind x.held) (at_a_record file (rest 0 0 6) (omega arith))
 
 module _ (file : List ℕ) (n i : ℕ) (left : Rest) (p : Passing file n i left) where
-  pub passing_rest : i < n → Passing file (n - i) 0 left × (0 < n - i)
-  passing_rest h = let size = p.size in (record { started = p.started; small = p.small; size = omega arith }, omega arith)
-
   pub passing_done : n ≤ i → new_behind (requests_left file left).held ≡ new_behind []
   passing_done h = let size = p.size in ap new_behind (empty (requests_left file left).held (omega arith))
 
@@ -204,9 +178,6 @@ module _ (file : List ℕ) (n i : ℕ) (left : Rest) (p : Passing file n i left)
         let size = p.size in
         let l : length (requests_left file left).held ≡ times + length (requests_left file behind).held = ap length taken_held ∙ simp (length-append, length-replicate) in
         omega arith
-
-    pub run_few : i + times ≤ n
-    run_few = let s = run_passed in omega arith
 
     pub passing_next : Passing file n (i + times) behind
     passing_next = record { started = t.started; small = t.small; size = run_passed }

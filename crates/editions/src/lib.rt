@@ -9,10 +9,10 @@
 
 ghost use Rattle.std.specs.Prelude.{◌≡◌};
 ghost use Rattle.traces.specs.Traces.{trace_file};
-ghost use Rattle.editions.specs.Calls.{library_requests, refused_with, converted_of, bytes_after};
+ghost use Rattle.editions.specs.Calls.{library_requests, converted_answer, converted_of, bytes_after};
 ghost use Rattle.editions.specs.Editions.{old_bytes, new_bytes};
 
-use paging::Sizes;
+use paging::{Refusal, Sizes};
 
 mod measure;
 mod new_edition;
@@ -20,36 +20,17 @@ mod old_edition;
 pub mod program;
 mod runs;
 
-// The output's length; or a refusal's number, and 0.
-#[derive(Clone, Copy)]
-pub struct Converted {
-    pub refusal: u32,
-    pub length: usize,
-}
-
-impl Converted {
-    // A refusal.
-    pub fn refused(number: u32) -> Converted
-        ensures { result ≡ refused_with number }
-    {
-        Converted {
-            refusal: number,
-            length: 0,
-        }
-    }
-}
-
-// The old edition of a trace file of at most 65,536 requests, in the first of the lent bytes.
-pub fn to_old(input: &[u8], out: &mut [u8]) -> Converted
-    ensures { (result ≡ converted_of old_bytes (trace_file library_requests input.now) out.old)
+// The old edition of a trace file of at most 65,536 requests, in the first of the lent bytes; the answer is its length.
+pub fn to_old(input: &[u8], out: &mut [u8]) -> Result<usize, Refusal>
+    ensures { (converted_answer result ≡ converted_of old_bytes (trace_file library_requests input.now) out.old)
         × (out.new ≡ bytes_after old_bytes (trace_file library_requests input.now) out.old) }
 {
     old_edition::within(input, Sizes::TRACE_MAX, out)
 }
 
 // The new edition.
-pub fn to_new(input: &[u8], out: &mut [u8]) -> Converted
-    ensures { (result ≡ converted_of new_bytes (trace_file library_requests input.now) out.old)
+pub fn to_new(input: &[u8], out: &mut [u8]) -> Result<usize, Refusal>
+    ensures { (converted_answer result ≡ converted_of new_bytes (trace_file library_requests input.now) out.old)
         × (out.new ≡ bytes_after new_bytes (trace_file library_requests input.now) out.old) }
 {
     new_edition::within(input, Sizes::TRACE_MAX, out)

@@ -4,21 +4,22 @@ ghost use Rattle.std.specs.Prelude.{◌+◌, ◌≤◌, ◌<◌, ◌≡◌};
 ghost use Rattle.reading.specs.Files.{requests_from};
 ghost use Rattle.editions.specs.Calls.{library_requests};
 ghost use Rattle.editions.specs.Editions.{longest_rr};
-ghost use Rattle.editions.specs.inner.Measuring.{Added, measured_in, last_length};
+ghost use Rattle.editions.specs.inner.Measuring.{Added, measured_answer, measured_in, last_length};
 
 use crate::runs::LONGEST;
+use paging::Refusal;
 use reading::TraceRecord;
 use records::length;
 
-// How many requests there are and how long their new edition is; or a refusal's number, and zeros.
+// How many requests there are, and how long their new edition is.
 #[derive(Clone, Copy)]
 pub(crate) struct Measured {
-    pub refusal: u32,
     pub requests: usize,
     pub length: usize,
 }
 
-// The run that was read last, and the length of all that stands before it in the new edition.
+// The run that was read last, and the length of all that stands before it in the new edition. Before the first request it is a run of none, which needs no case
+// of its own below.
 #[derive(Clone, Copy)]
 pub(crate) struct LastRun {
     pub page: u32,
@@ -62,57 +63,27 @@ fn with_record(last: LastRun, page: u32, times: u32) -> LastRun
 }
 
 // A file of at most `most` requests. The record that passes the limit is refused as a whole, judged in the loop.
-pub(crate) fn measure(file: &[u8], most: usize) -> Measured
+pub(crate) fn measure(file: &[u8], most: usize) -> Result<Measured, Refusal>
     requires { most ≤ library_requests }
-    ensures { result ≡ measured_in most (requests_from file.now 6) }
+    ensures { measured_answer result ≡ measured_in most (requests_from file.now 6) }
 {
     let mut at = length::KA;
-    let mut n = 0;
+    let mut requests = 0;
     let mut last = LastRun {
         page: 0,
         times: 0,
         size: length::KA,
     };
-    loop {
-        match reading::trace(file, at) {
-            TraceRecord::Request { page, times, next } => {
-                let more = times as usize;
-                if more > most - n {
-                    return refused(3);
-                }
-                n += more;
-                last = with_record(last, page, times as u32);
-                at = next;
-            }
-            TraceRecord::End => return whole(n, last),
-            TraceRecord::Refused(number) => return refused(number),
-            TraceRecord::Sizes {
-                k: _,
-                a: _,
-                next: _,
-            } => return refused(4),
+    // No `for`, since each record says where the next one stands.
+    while let TraceRecord::Request { page, times, next } = reading::trace(file, at)? {
+        let more = usize::from(times);
+        if more > most - requests {
+            return Err(Refusal::TraceTooLong);
         }
+        requests += more;
+        last = with_record(last, page, u32::from(times));
+        at = next;
     }
-}
-
-fn refused(number: u32) -> Measured
-    ensures { result ≡ record { refusal = number; requests = 0; length = 0 } }
-{
-    Measured {
-        refusal: number,
-        requests: 0,
-        length: 0,
-    }
-}
-
-// All n requests are read.
-fn whole(n: usize, last: LastRun) -> Measured
-    requires { last.size ≤ 1000000 }
-    ensures { result ≡ record { refusal = 0; requests = n; length = last.size + last_length last.times } }
-{
-    Measured {
-        refusal: 0,
-        requests: n,
-        length: last.size + last_length(last.times),
-    }
+    let length = last.size + last_length(last.times);
+    Ok(Measured { requests, length })
 }

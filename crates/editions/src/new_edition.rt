@@ -2,19 +2,16 @@
 ghost use Rattle.std.specs.Prelude.{◌+◌, ◌≤◌, ◌<◌, ◌≡◌, length};
 ghost use Rattle.wire.specs.Numbers.{placed};
 ghost use Rattle.records.specs.Bytes.{trace_entry_bytes};
-ghost use Rattle.records.specs.Marks.{mark_at};
 ghost use Rattle.reading.specs.Files.{requests_from};
-ghost use Rattle.reading.specs.Reading.{sizes, ka_read};
 ghost use Rattle.traces.specs.Traces.{trace_file};
-ghost use Rattle.editions.specs.Calls.{library_requests, converted_of, bytes_after};
+ghost use Rattle.editions.specs.Calls.{library_requests, converted_answer, converted_of, bytes_after};
 ghost use Rattle.editions.specs.Editions.{longest_rr, run_record, new_bytes};
 ghost use Rattle.editions.specs.inner.Turning.{new_behind};
 
-use crate::Converted;
 use crate::measure::measure;
 use crate::runs::next_run;
 use cursor::Rest;
-use reading::Start;
+use paging::{Refusal, Sizes};
 use records::length;
 
 // A run's record from an offset on; answers the offset behind it.
@@ -44,6 +41,7 @@ fn put_runs(file: &[u8], n: usize, out: &mut [u8])
     };
     let mut at = length::KA;
     let mut i = 0;
+    // No `for`, since a run stands for one request or for many.
     while i < n {
         let run = next_run(file, left, n - i);
         at = put_run(run.page, run.times, out, at);
@@ -52,36 +50,18 @@ fn put_runs(file: &[u8], n: usize, out: &mut [u8])
     }
 }
 
-// A file whose sizes are right. Whether the bytes suffice is judged before the first of them is written.
-fn sized(input: &[u8], most: usize, k: u32, a: u32, out: &mut [u8]) -> Converted
-    requires { (most ≤ library_requests) × (sizes k a 6 ≡ ka_read (mark_at input.now) input.now) }
-    ensures { (result ≡ converted_of new_bytes (trace_file most input.now) out.old)
+// A file of at most `most` requests. Whether the bytes suffice is judged before the first of them is written.
+pub(crate) fn within(input: &[u8], most: usize, out: &mut [u8]) -> Result<usize, Refusal>
+    requires { most ≤ library_requests }
+    ensures { (converted_answer result ≡ converted_of new_bytes (trace_file most input.now) out.old)
         × (out.new ≡ bytes_after new_bytes (trace_file most input.now) out.old) }
 {
-    let all = measure(input, most);
-    if all.refusal != 0 {
-        return Converted::refused(all.refusal);
-    }
+    let Sizes { k, a } = reading::ka(input)?;
+    let all = measure(input, most)?;
     if out.len() < all.length {
-        return Converted::refused(8);
+        return Err(Refusal::TooLittleRoom);
     }
     records::put::ka(out, k as u16, a as u16);
     put_runs(input, all.requests, out);
-    Converted {
-        refusal: 0,
-        length: all.length,
-    }
-}
-
-// A file of at most `most` requests.
-pub(crate) fn within(input: &[u8], most: usize, out: &mut [u8]) -> Converted
-    requires { most ≤ library_requests }
-    ensures { (result ≡ converted_of new_bytes (trace_file most input.now) out.old)
-        × (out.new ≡ bytes_after new_bytes (trace_file most input.now) out.old) }
-{
-    let first = reading::ka(input);
-    match first {
-        Start::Refused(number) => Converted::refused(number),
-        Start::Sizes { k, a } => sized(input, most, k, a, out),
-    }
+    Ok(all.length)
 }

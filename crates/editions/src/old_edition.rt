@@ -4,12 +4,12 @@ ghost use Rattle.wire.specs.Numbers.{placed};
 ghost use Rattle.records.specs.Bytes.{rq_bytes, joined};
 ghost use Rattle.reading.specs.Files.{requests_from};
 ghost use Rattle.traces.specs.Traces.{trace_file};
-ghost use Rattle.editions.specs.Calls.{library_requests, converted_of, bytes_after};
+ghost use Rattle.editions.specs.Calls.{library_requests, converted_answer, converted_of, bytes_after};
 ghost use Rattle.editions.specs.Editions.{old_bytes};
 ghost use Rattle.editions.specs.inner.Turning.{old_behind};
 
-use crate::Converted;
 use cursor::next_record;
+use paging::Refusal;
 use records::length;
 
 // The length of the old edition of so many requests.
@@ -53,6 +53,7 @@ fn put_singles(file: &[u8], n: usize, out: &mut [u8])
     let mut from = length::KA;
     let mut at = length::KA;
     let mut i = 0;
+    // No `for`, since a record stands for one request or for many.
     while i < n {
         let found = next_record(file, from);
         at = put_requests(found.page, found.times, out, at);
@@ -62,20 +63,17 @@ fn put_singles(file: &[u8], n: usize, out: &mut [u8])
 }
 
 // A file of at most `most` requests. Whether the bytes suffice is judged before the first of them is written.
-pub(crate) fn within(input: &[u8], most: usize, out: &mut [u8]) -> Converted
+pub(crate) fn within(input: &[u8], most: usize, out: &mut [u8]) -> Result<usize, Refusal>
     requires { most ≤ library_requests }
-    ensures { (result ≡ converted_of old_bytes (trace_file most input.now) out.old)
+    ensures { (converted_answer result ≡ converted_of old_bytes (trace_file most input.now) out.old)
         × (out.new ≡ bytes_after old_bytes (trace_file most input.now) out.old) }
 {
-    let told = traces::count(input, most);
-    if told.refusal != 0 {
-        return Converted::refused(told.refusal);
-    }
+    let told = traces::count(input, most)?;
     let length = size(told.requests);
     if out.len() < length {
-        return Converted::refused(8);
+        return Err(Refusal::TooLittleRoom);
     }
     records::put::ka(out, told.k as u16, told.a as u16);
     put_singles(input, told.requests, out);
-    Converted { refusal: 0, length }
+    Ok(length)
 }

@@ -1,10 +1,11 @@
 // The two calls as the programs make them: at most 4,096 requests, and from so many bytes of their input that the rest makes no difference.
 ghost use Rattle.std.specs.Prelude.{◌≡◌};
 ghost use Rattle.traces.specs.Traces.{trace_file};
-ghost use Rattle.editions.specs.Calls.{program_requests, converted_of, bytes_after, ReadEnough, RoomEnough, OutputInside};
+ghost use Rattle.editions.specs.Calls.{program_requests, converted_answer, converted_of, bytes_after, ReadEnough, RoomEnough, OutputInside};
 ghost use Rattle.editions.specs.Editions.{old_bytes, new_bytes};
 
-use crate::{Converted, new_edition, old_edition};
+use crate::{new_edition, old_edition};
+use paging::Refusal;
 use records::length;
 
 // The limits of a program.
@@ -23,23 +24,23 @@ impl Program {
 }
 
 // What `to_old` prints for an input.
-pub fn to_old(input: &[u8], out: &mut [u8]) -> Converted
-    ensures value { (result ≡ converted_of old_bytes (trace_file program_requests input.now) out.old)
+pub fn to_old(input: &[u8], out: &mut [u8]) -> Result<usize, Refusal>
+    ensures value { (converted_answer result ≡ converted_of old_bytes (trace_file program_requests input.now) out.old)
         × (out.new ≡ bytes_after old_bytes (trace_file program_requests input.now) out.old) }
-    ensures read_enough { ReadEnough Program.INPUT old_bytes input.now out.old out.new result }
-    ensures room_enough { RoomEnough Program.OUTPUT input.now out.old result }
-    ensures output_inside { OutputInside result out.new }
+    ensures read_enough { ReadEnough Program.INPUT old_bytes input.now out.old out.new (converted_answer result) }
+    ensures room_enough { RoomEnough Program.OUTPUT input.now out.old (converted_answer result) }
+    ensures output_inside { OutputInside (converted_answer result) out.new }
 {
     old_edition::within(input, Program::LONGEST, out)
 }
 
 // What `to_new` prints for an input.
-pub fn to_new(input: &[u8], out: &mut [u8]) -> Converted
-    ensures value { (result ≡ converted_of new_bytes (trace_file program_requests input.now) out.old)
+pub fn to_new(input: &[u8], out: &mut [u8]) -> Result<usize, Refusal>
+    ensures value { (converted_answer result ≡ converted_of new_bytes (trace_file program_requests input.now) out.old)
         × (out.new ≡ bytes_after new_bytes (trace_file program_requests input.now) out.old) }
-    ensures read_enough { ReadEnough Program.INPUT new_bytes input.now out.old out.new result }
-    ensures room_enough { RoomEnough Program.OUTPUT input.now out.old result }
-    ensures output_inside { OutputInside result out.new }
+    ensures read_enough { ReadEnough Program.INPUT new_bytes input.now out.old out.new (converted_answer result) }
+    ensures room_enough { RoomEnough Program.OUTPUT input.now out.old (converted_answer result) }
+    ensures output_inside { OutputInside (converted_answer result) out.new }
 {
     new_edition::within(input, Program::LONGEST, out)
 }

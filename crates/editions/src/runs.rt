@@ -1,10 +1,9 @@
 // The requests of one record of the new edition, taken from what is left of a trace's file that was found good. A run may stand there in many records: RQs and
 // RRs of one page in a row.
-ghost use Rattle.std.specs.Prelude.{◌≤◌, ◌<◌, ◌≡◌, length};
-ghost use Rattle.cursor.specs.Cursor.{Begun, requests_left};
+ghost use Rattle.std.specs.Prelude.{◌<◌};
 ghost use Rattle.editions.specs.inner.Turning.{Passing, RunTaken};
 
-use cursor::{Rest, next_record};
+use cursor::{Rest, begun, next_record};
 
 // A page, how many requests for it the record has, and what is left behind them.
 #[derive(Clone, Copy)]
@@ -17,17 +16,6 @@ pub(crate) struct NextRun {
 // The most requests of an RR.
 pub(crate) const LONGEST: u32 = 65535;
 
-// What is left, with a run begun.
-fn begun(file: &[u8], left: Rest) -> Rest
-    requires { (0 < left.from) × (left.times ≤ 65535) × (0 < length (requests_left file.now left).held) }
-    ensures { Begun result × (requests_left file.now left ≡ requests_left file.now result) }
-{
-    if left.times > 0 {
-        return left;
-    }
-    next_record(file, left.from)
-}
-
 // The next run, where n requests are left: as many requests for one page as follow one another, but 65,535 at most. The record of the page behind them is
 // read, and the rest begins with it.
 pub(crate) fn next_run(file: &[u8], left: Rest, n: usize) -> NextRun
@@ -38,6 +26,7 @@ pub(crate) fn next_run(file: &[u8], left: Rest, n: usize) -> NextRun
     let page = first.page;
     let mut times = first.times;
     let mut from = first.from;
+    // No `for`, since the page of each record decides whether the run goes on.
     while (times as usize) < n {
         let more = next_record(file, from);
         if more.page != page {
@@ -48,11 +37,12 @@ pub(crate) fn next_run(file: &[u8], left: Rest, n: usize) -> NextRun
             };
         }
         let all = times + more.times;
+        from = more.from;
         if all > LONGEST {
             let left = Rest {
                 page,
                 times: all - LONGEST,
-                from: more.from,
+                from,
             };
             return NextRun {
                 page,
@@ -61,7 +51,6 @@ pub(crate) fn next_run(file: &[u8], left: Rest, n: usize) -> NextRun
             };
         }
         times = all;
-        from = more.from;
     }
     let left = Rest {
         page,

@@ -1,6 +1,8 @@
 -- The new edition measured while the requests are read: the run that was read last is still open, all before it is measured.
-use Rattle.std.specs.Prelude.{ℕ, ◌+◌, ◌≤◌, List, ◌++◌, ◌≡◌, eqb, length, replicate}
+use Rattle.std.specs.Prelude.{ℕ, ◌+◌, ◌≤◌, List, ◌++◌, ◌≡◌, eqb, length, replicate, Result, Ok, Err}
 use Rattle.lists.specs.Choice.{pick}
+use Rattle.paging.specs.Numbers.{number_of}
+use Rattle.paging.specs.declared.reasons.Refusal.{Refusal}
 use Rattle.reading.specs.Files.{File}
 use Rattle.traces.specs.Traces.{requests_refusal}
 use Rattle.editions.specs.Editions.{longest_rr}
@@ -20,7 +22,16 @@ pub record Added (last : LastRun) (page times : ℕ) (r : LastRun) : Type 0 wher
       ≡ r.size + length (new_behind (replicate r.times r.page ++ rest))
 
 -- the requests counted, and the length of the new edition beside them; or a refusal's number and zeros
-abbrev pub measured_in : (limit : ℕ) → File ℕ → Measured
+pub record MeasuredAnswer : Type 0 where
+  pub refusal : ℕ
+  pub requests : ℕ
+  pub length : ℕ
+
+abbrev pub measured_answer : Result Measured Refusal → MeasuredAnswer
+measured_answer (Ok all) = record { refusal = 0; requests = all.requests; length = all.length }
+measured_answer (Err reason) = record { refusal = number_of reason; requests = 0; length = 0 }
+
+abbrev pub measured_in : (limit : ℕ) → File ℕ → MeasuredAnswer
 measured_in limit file =
     record {
       refusal = requests_refusal limit file;

@@ -1,12 +1,6 @@
 -- `with_record` meets its contract: another page ends the last run, the same page makes it longer, or a full RR is put before what is left of it.
-use native.Mathlib.Omega.{arith}
-use Rattle.editions.proofs.MeasureLaws.{last_small, added_other, added_same, added_full}
+use Rattle.editions.proofs.MeasureLaws.{added_other, added_same, added_full}
 use Rattle.editions.proofs.measure.with_record.Goals as goal
-
-pub overflow_add-size : goal.overflow_add-size
-overflow_add-size c =
-    let small = last_small c.args.last.times c.last_length.result c.last_length.ensures in
-    omega arith
 
 pub returns-then-page-last : goal.returns-then-page-last
 returns-then-page-last c =

@@ -1,16 +1,13 @@
 use Prim.Native.Nat.{◌+◌, ◌-◌}
 use native.Mathlib.Omega.{arith}
 use mathlib.Core.Path.{◌≡◌}
-use Rattle.editions.proofs.Written.{same_first, same_fits, same_next, same_done}
+use Rattle.editions.proofs.Written.{same_first, same_next, same_done}
 use Rattle.editions.proofs.old_edition.put_same.Goals as goal
 
 pub loop-init : goal.loop-init
 loop-init c =
     let all : c.args.times ≡ c.args.times - 0 = omega arith in
     rw (← all) (same_first c.args.page c.args.times c.args.out.now c.args.from c.requires)
-
-pub rq_at-requires : goal.rq_at-requires
-rq_at-requires c = same_fits _ _ _ _ _ _ _ c.loop.invariant (omega arith)
 
 pub loop-preserved : goal.loop-preserved
 loop-preserved c =

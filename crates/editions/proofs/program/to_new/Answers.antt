@@ -5,5 +5,5 @@ use Rattle.editions.proofs.program.to_new.Goals as goal
 
 pub returns : goal.returns
 returns c =
-    let p = program_promises new_bytes new_is_short c.args.input.now c.args.out.now _ c.within.result c.within.ensures in
+    let p = program_promises new_bytes new_is_short c.args.input.now c.args.out.now _ _ c.within.ensures in
     record { value = p.0; read_enough = p.1.0; room_enough = p.1.1.0; output_inside = p.1.1.1 }

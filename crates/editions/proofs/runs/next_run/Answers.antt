@@ -1,15 +1,5 @@
-use native.Mathlib.Omega.{arith}
-use Rattle.editions.proofs.Taking.{run_first, taken_before, more_there, run_last, run_other, run_full, run_grows}
+use Rattle.editions.proofs.Taking.{taken_before, more_there, run_last, run_other, run_full, run_grows}
 use Rattle.editions.proofs.runs.next_run.Goals as goal
-
-pub begun-first-requires : goal.begun-first-requires
-begun-first-requires c =
-    let passing = c.requires.0 in
-    (passing.started, passing.small, omega arith)
-
-pub loop-times-init : goal.loop-times-init
-loop-times-init c =
-    run_first c.args.file.now c.args.left c.args.n c.requires.0 c.begun-first.result c.begun-first.ensures
 
 pub next_record-more-requires : goal.next_record-more-requires
 next_record-more-requires c =
@@ -21,7 +11,7 @@ returns-then-more-page c =
     let begun = c.begun-first in
     let inv = c.loop-times.invariant in
     let more = c.next_record-more in
-    taken_before c.args.file.now c.args.left c.args.n c.requires.0 begun.result begun.ensures _ _ _
+    taken_before c.args.file.now c.args.left c.args.n c.requires.0 begun.result begun.ensures.same _ _ _
     (run_other _ _ _ _ _ _ inv more.result more.ensures c.if-more-page.true)
 
 pub returns-then-all-gt-LONGEST : goal.returns-then-all-gt-LONGEST
@@ -29,7 +19,7 @@ returns-then-all-gt-LONGEST c =
     let begun = c.begun-first in
     let inv = c.loop-times.invariant in
     let more = c.next_record-more in
-    taken_before c.args.file.now c.args.left c.args.n c.requires.0 begun.result begun.ensures _ _ _
+    taken_before c.args.file.now c.args.left c.args.n c.requires.0 begun.result begun.ensures.same _ _ _
     (run_full _ _ _ _ _ _ inv more.result more.ensures c.if-more-page.false c.if-all-gt-LONGEST.true)
 
 pub loop-times-preserved : goal.loop-times-preserved
@@ -41,5 +31,5 @@ loop-times-preserved c =
 pub returns : goal.returns
 returns c =
     let begun = c.begun-first in
-    taken_before c.args.file.now c.args.left c.args.n c.requires.0 begun.result begun.ensures _ _ _
+    taken_before c.args.file.now c.args.left c.args.n c.requires.0 begun.result begun.ensures.same _ _ _
     (run_last _ _ _ _ _ _ c.loop-times.invariant c.loop-times-test.false)
