@@ -13,12 +13,9 @@ fn main(rt: HostRuntime) {
         return;
     };
     let mut bytes = [0u8; Program::OUTPUT];
-    let turned = program::to_old(&input[..n], &mut bytes);
     let out = Output::new(rt.stdout(), rt);
-    if turned.refusal != 0 {
-        out.text(b"refused").field(turned.refusal).end_line();
-    } else {
-        let length = turned.length;
-        out.text(&bytes[..length]);
-    }
+    match program::to_old(&input[..n], &mut bytes) {
+        Ok(length) => out.text(&bytes[..length]),
+        Err(reason) => out.text(b"refused").field(reason.number()).end_line(),
+    };
 }
