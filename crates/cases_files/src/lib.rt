@@ -6,7 +6,7 @@
 
 use cases_rows::row::Numbers;
 use cases_rows::show;
-use editions::Converted;
+use paging::Refusal;
 
 mod bytes;
 mod records_read;
@@ -54,8 +54,8 @@ fn on_bytes(rt: &impl Print, call: u16, n: Numbers, file: &mut [u8], trace: &[u8
         SCHEDULE => records_read::schedule(rt, file, n.0),
         COUNT => records_read::count(rt, file, n.0),
         FARTHEST => farthest(rt, n.0, n.1, pages, file),
-        OLD_EDITION => turned(rt, editions::to_old(trace, file)),
-        NEW_EDITION => turned(rt, editions::to_new(trace, file)),
+        OLD_EDITION => length(rt, editions::to_old(trace, file)),
+        NEW_EDITION => length(rt, editions::to_new(trace, file)),
         KA | RQ | RR | EV | PF => writing::record(rt, call, n, file, pages),
         _ => show::text(rt, b" no such call"),
     }
@@ -70,21 +70,18 @@ fn judged(rt: &impl Print, answer: i64) {
     }
 }
 
-// An edition of a trace, in bytes.
-fn turned(rt: &impl Print, r: Converted) {
-    if r.refusal != 0 {
-        show::refused(rt, r.refusal);
-    } else {
-        show::length(rt, r.length);
+// A length or an offset in bytes.
+pub(crate) fn length(rt: &impl Print, answer: Result<usize, Refusal>) {
+    match answer {
+        Ok(n) => show::length(rt, n),
+        Err(reason) => show::figure(rt, reason),
     }
 }
 
 // MIN's schedule of a trace, into bytes.
 fn farthest(rt: &impl Print, k: u32, a: u32, trace: &[u32], out: &mut [u8]) {
-    let r = min::schedule(k, a, trace, out);
-    if r.refusal != 0 {
-        show::refused(rt, r.refusal);
-    } else {
-        show::length(rt, r.length);
+    match min::schedule(k, a, trace, out) {
+        Ok(written) => show::length(rt, written.length),
+        Err(reason) => show::figure(rt, reason),
     }
 }

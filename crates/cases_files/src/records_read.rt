@@ -6,24 +6,22 @@ use reading::{ScheduleRecord, TraceRecord};
 
 // A record of a trace at an offset, with the offset behind it.
 pub(crate) fn trace(rt: &impl Print, file: &[u8], at: u32) {
-    let found = trace_at(file, at as usize);
-    match found {
-        TraceRecord::Sizes { k, a, next } => fields(rt, b" KA", k, a, next),
-        TraceRecord::Request { page, times, next } => request(rt, page, times, next),
-        TraceRecord::End => show::text(rt, b" end"),
-        TraceRecord::Refused(number) => show::refused(rt, number),
+    match trace_at(file, at as usize) {
+        Ok(TraceRecord::Sizes { k, a, next }) => fields(rt, b" KA", k, a, next),
+        Ok(TraceRecord::Request { page, times, next }) => request(rt, page, times, next),
+        Ok(TraceRecord::End) => show::text(rt, b" end"),
+        Err(reason) => show::figure(rt, reason),
     }
 }
 
 // A record of a schedule at an offset, with the offset behind it; a bundle's pages start at an offset.
 pub(crate) fn schedule(rt: &impl Print, file: &[u8], at: u32) {
-    let found = schedule_at(file, at as usize);
-    match found {
-        ScheduleRecord::Sizes { k, a, next } => fields(rt, b" KA", k, a, next),
-        ScheduleRecord::Bundle { t, n, from, next } => bundle(rt, t, n, from, next),
-        ScheduleRecord::Fetch { t, page, next } => fields(rt, b" PF", t, page, next),
-        ScheduleRecord::End => show::text(rt, b" end"),
-        ScheduleRecord::Refused(number) => show::refused(rt, number),
+    match schedule_at(file, at as usize) {
+        Ok(ScheduleRecord::Sizes { k, a, next }) => fields(rt, b" KA", k, a, next),
+        Ok(ScheduleRecord::Bundle { t, n, from, next }) => bundle(rt, t, n, from, next),
+        Ok(ScheduleRecord::Fetch { t, page, next }) => fields(rt, b" PF", t, page, next),
+        Ok(ScheduleRecord::End) => show::text(rt, b" end"),
+        Err(reason) => show::figure(rt, reason),
     }
 }
 
@@ -38,13 +36,13 @@ fn request(rt: &impl Print, page: u32, times: u16, next: usize) {
 
 // A trace file read whole with a limit: k, a and the number of requests.
 pub(crate) fn count(rt: &impl Print, file: &[u8], most: u32) {
-    let told = traces::count(file, most as usize);
-    if told.refusal != 0 {
-        show::refused(rt, told.refusal);
-    } else {
-        show::figure(rt, told.k);
-        show::figure(rt, told.a);
-        show::length(rt, told.requests);
+    match traces::count(file, most as usize) {
+        Ok(told) => {
+            show::figure(rt, told.k);
+            show::figure(rt, told.a);
+            show::length(rt, told.requests);
+        }
+        Err(reason) => show::figure(rt, reason),
     }
 }
 

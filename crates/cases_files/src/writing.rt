@@ -1,20 +1,21 @@
 // The writers of records.
 use cases_rows::row::Numbers;
-use cases_rows::show;
+use paging::Refusal;
 use records::write;
-use records::write::Written;
 
 // Writes a record at an offset of lent bytes. The answer is the offset behind it.
 pub(crate) fn record(rt: &impl Print, mark: u16, n: Numbers, out: &mut [u8], pages: &[u32]) {
-    let at = n.0 as usize;
-    let written = write(mark, at, n.1, n.2, out, pages);
-    match written {
-        Written::Next(next) => show::length(rt, next),
-        Written::Refused(number) => show::refused(rt, number),
-    }
+    crate::length(rt, write(mark, n.0 as usize, n.1, n.2, out, pages));
 }
 
-fn write(mark: u16, at: usize, one: u32, two: u32, out: &mut [u8], pages: &[u32]) -> Written {
+fn write(
+    mark: u16,
+    at: usize,
+    one: u32,
+    two: u32,
+    out: &mut [u8],
+    pages: &[u32],
+) -> Result<usize, Refusal> {
     match mark {
         crate::KA => write::ka(out, at, one, two),
         crate::RQ => write::rq(out, at, one),
