@@ -12,7 +12,7 @@ mod bytes;
 mod records_read;
 mod writing;
 
-// The first two letters of each call.
+// The first two letters of each call, as a row has them: an enum would name each a second time, and the rows would still have the letters.
 const JUDGE: u16 = b'j' as u16 + 256 * b'u' as u16;
 
 const TRACE: u16 = b't' as u16 + 256 * b'r' as u16;

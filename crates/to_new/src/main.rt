@@ -1,5 +1,5 @@
 // Reads a trace file on standard input and prints its new edition (document 02, request 08): the raw bytes and nothing else, or `refused` and a number.
-// All that matters is in the crate `editions`.
+// All that matters is in the crate `editions`. It differs from `to_old` in one call: each command is a program of its own.
 #![tactic(auto)]
 
 use editions::program;
