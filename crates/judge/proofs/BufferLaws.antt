@@ -1,47 +1,24 @@
 -- Laws behind the buffer: the pages held are the first n places of a list.
-use Prim.Native.Nat.{ℕ, zero, suc, ◌+◌, ◌-◌, ◌≤◌, ◌<◌}
-use native.Mathlib.Numerals.{add-one}
+use Prim.Native.Nat.{ℕ, zero, suc, ◌+◌, ◌-◌, ◌*◌, ◌≤◌, ◌<◌}
 use native.Mathlib.Omega.{arith}
-use mathlib.Core.Bool.{Bool, true, false, false≢true}
+use mathlib.Core.Bool.{true, false}
 use mathlib.Core.List.{List, [], ◌∷◌, ◌++◌, append_assoc}
-use mathlib.Core.Path.{◌≡◌, refl, sym, ap, ◌∙◌}
+use mathlib.Core.Path.{◌≡◌, sym, ap, ◌∙◌}
 use lib.Dec.{eqb, ltb}
-use lib.ListN.{length, take, drop, set, length-append, length-drop}
-use lib.Seq.{length-take-le, take-suc-set, drop-drop, take_at}
+use lib.ListN.{length, take, drop, length-append, length-drop}
+use lib.Seq.{length-take-le, drop-drop, take_at}
 use Rattle.lists.specs.Choice.{◌and◌}
 use Rattle.lists.specs.Pages.{mem, erase, erase_all}
 use Rattle.lists.specs.Places.{place, moved_to_end}
 use Rattle.lists.proofs.Choice.{cases, tests}
 use Rattle.lists.proofs.Leaves.{mem_place}
-use Rattle.paging.specs.Schedule.{held_in_turn, with_page}
+use Rattle.paging.specs.Schedule.{held_in_turn}
 use Rattle.wire.specs.Numbers.{num32, nums32}
 
-module _ (p n : ℕ) (held : List ℕ) (h : n ≤ length held) where
-  pub has_law : (r : ℕ) → r ≡ place p (take n held) → ltb r n ≡ mem p (take n held)
-  has_law r e = rw (e, mem_place p (take n held), length-take-le n held h)
+-- One page taken out
 
-  pub add_present : (k : ℕ) → mem p (take n held) ≡ true
-      → (n ≡ length (with_page p (take n held))) × (n ≤ k → take n held ≡ with_page p (take n held))
-  add_present k m = rw m (sym (length-take-le n held h), (λ _. refl))
-
-  longer : mem p (take n held) ≡ false → n + 1 ≡ length (with_page p (take n held))
-  longer m = rw (m, length-append (take n held) (p ∷ []), length-take-le n held h)
-
-  pub add_full : (k : ℕ) (after : List ℕ) → k ≤ n → mem p (take n held) ≡ false
-      → (n + 1 ≡ length (with_page p (take n held))) × (n + 1 ≤ k → take (n + 1) after ≡ with_page p (take n held))
-  add_full k after full m = (longer m, (λ l. absurd (omega arith)))
-
-  pub add_absent : (k : ℕ) → n < length held → mem p (take n held) ≡ false
-      → (n + 1 ≡ length (with_page p (take n held))) × (n + 1 ≤ k → take (n + 1) (set held n p) ≡ with_page p (take n held))
-  add_absent k room m = (longer m, (λ _. rw (m, add-one n, take-suc-set held n p room)))
-
--- A bundle's pages, one by one
-
-pub next_page : (s : List ℕ) (at left : ℕ) → 0 < left → nums32 left (drop at s) ≡ num32 (drop at s) ∷ nums32 (left - 1) (drop (at + 4) s)
-next_page s at zero h = absurd (omega arith)
-next_page s at (suc left) h =
-    let e : suc left - 1 ≡ left = omega arith in
-    rw (e, drop-drop 4 at s)
+has_law : (p n r : ℕ) (held : List ℕ) → n ≤ length held → r ≡ place p (take n held) → ltb r n ≡ mem p (take n held)
+has_law p n r held h e = rw (e, mem_place p (take n held), length-take-le n held h)
 
 erase_gap : (p : ℕ) (xs : List ℕ) → place p xs < length xs → erase p xs ≡ take (place p xs) xs ++ drop (suc (place p xs)) xs
 erase_gap p [] h = absurd (omega arith)
@@ -51,49 +28,58 @@ erase_gap p (x ∷ xs) h =
     (λ m. let l : suc (place p xs) < length (x ∷ xs) = rw m at h in rw m (ap (λ (l : List ℕ). x ∷ l) (erase_gap p xs (omega arith))))
 
 -- a page that is not held
-pub not_there : (p n r : ℕ) (held after : List ℕ) → n ≤ length held → r ≡ place p (take n held) → n ≤ r
-    → (false ≡ mem p (take n held)) × (false ≡ true → (1 ≤ n) × (take (n - 1) after ≡ erase p (take n held)))
-not_there p n r held after h e l =
-    let m : ltb r n ≡ false = omega tests in
-    (sym m ∙ has_law p n held h r e, (λ z. absurd (false≢true z)))
+pub not_there : (p n r : ℕ) (held : List ℕ) → n ≤ length held → r ≡ place p (take n held) → n ≤ r → false ≡ mem p (take n held)
+not_there p n r held h e l = let m : ltb r n ≡ false = omega tests in sym m ∙ has_law p n r held h e
+
+pub was_there : (p n r : ℕ) (held : List ℕ) → n ≤ length held → r ≡ place p (take n held) → r < n → true ≡ mem p (take n held)
+was_there p n r held h e l = let m : ltb r n ≡ true = omega tests in sym m ∙ has_law p n r held h e
 
 -- a page that goes to the end of the pages held, and is then left out
 pub taken_out : (p n r : ℕ) (held moved after : List ℕ) → n ≤ length held → r ≡ place p (take n held) → r < n → moved ≡ moved_to_end r (take n held)
-    → after ≡ moved ++ drop n held
-    → (true ≡ mem p (take n held)) × (true ≡ true → (1 ≤ n) × (take (n - 1) after ≡ erase p (take n held)))
+    → after ≡ moved ++ drop n held → take (n - 1) after ≡ erase p (take n held)
 taken_out p n r held moved after h e l q w =
-    let m : ltb r n ≡ true = omega tests in
     let size = length-take-le n held h in
     let gap = take r (take n held) ++ drop (suc r) (take n held) in
     let all : length gap ≡ n - 1 = simp (length-append, length-drop, length-take-le r (take n held) (omega arith), size) (omega arith) in
     let rest = take 1 (drop r (take n held)) in
-    let same : erase p (take n held) ≡ gap = rw e (erase_gap p (take n held) (omega arith)) in (
-      sym m ∙ has_law p n held h r e,
-      (λ z. (omega arith, rw (w, q, append_assoc gap rest (drop n held), take_at gap (rest ++ drop n held) (n - 1) all) (sym same))),
-    )
+    let same : erase p (take n held) ≡ gap = rw e (erase_gap p (take n held) (omega arith)) in
+    rw (w, q, append_assoc gap rest (drop n held), take_at gap (rest ++ drop n held) (n - 1) all) (sym same)
 
-module _ (s : List ℕ) (at left page m : ℕ) (held : List ℕ) (h : 0 < left) (e : page ≡ num32 (drop at s)) where
-  pub next_held : (after : List ℕ) → mem page (take m held) ≡ true → take (m - 1) after ≡ erase page (take m held)
-      → held_in_turn (nums32 left (drop at s)) (take m held) ≡ held_in_turn (nums32 (left - 1) (drop (at + 4) s)) (take (m - 1) after)
+-- A bundle's pages, one by one
+
+next_page : (s : List ℕ) (at left : ℕ) → 0 < left → nums32 left (drop at s) ≡ num32 (drop at s) ∷ nums32 (left - 1) (drop (at + 4) s)
+next_page s at zero h = absurd (omega arith)
+next_page s at (suc left) h =
+    let e : suc left - 1 ≡ left = omega arith in
+    rw (e, drop-drop 4 at s)
+
+-- what is left to take out from the pages held gives what the whole gives
+pub record Evicts (s : List ℕ) (from count done : ℕ) (first held : List ℕ) : Type 0 where
+  pub turns : held_in_turn (nums32 (count - done) (drop (from + 4 * done) s)) held ≡ held_in_turn (nums32 count (drop from s)) first
+  pub pages : erase_all (nums32 (count - done) (drop (from + 4 * done) s)) held ≡ erase_all (nums32 count (drop from s)) first
+
+module _ (s : List ℕ) (from count done page : ℕ) (first held : List ℕ) (h : done < count) (e : page ≡ num32 (drop (from + 4 * done) s))
+    (c : Evicts s from count done first held) where
+  next : nums32 (count - done) (drop (from + 4 * done) s) ≡ page ∷ nums32 (count - (done + 1)) (drop (from + 4 * (done + 1)) s)
+  next =
+      let a : from + 4 * done + 4 ≡ from + 4 * (done + 1) = omega arith in
+      let b : count - done - 1 ≡ count - (done + 1) = omega arith in
+      rw (e, ← a, ← b) (next_page s (from + 4 * done) (count - done) (omega arith))
+
+  pub evicts_next : (after : List ℕ) → true ≡ mem page held → after ≡ erase page held → Evicts s from count (done + 1) first after
   unfolding ◌and◌
-  next_held after q w = rw (next_page s at left h, ← e, q, w)
+  evicts_next after m w =
+      record { turns = rw w (sym (rw (next, ← m)) ∙ c.turns); pages = rw w (sym (rw next) ∙ c.pages) }
 
-  pub next_erased : (after : List ℕ) → take (m - 1) after ≡ erase page (take m held)
-      → erase_all (nums32 left (drop at s)) (take m held) ≡ erase_all (nums32 (left - 1) (drop (at + 4) s)) (take (m - 1) after)
-  next_erased after w = rw (next_page s at left h, ← e, w)
-
-  pub next_missing : mem page (take m held) ≡ false → held_in_turn (nums32 left (drop at s)) (take m held) ≡ false
+  pub evicts_missing : false ≡ mem page held → false ≡ held_in_turn (nums32 count (drop from s)) first
   unfolding ◌and◌
-  next_missing q = rw (next_page s at left h, ← e, q)
+  evicts_missing m = sym (rw (next, ← m)) ∙ c.turns
 
-pub evicted : (s : List ℕ) (at left m n count : ℕ) (held rest : List ℕ) (b : Bool) → left ≤ 0 → m + count ≡ n + left
-    → b ≡ held_in_turn (nums32 left (drop at s)) (take m held) → rest ≡ erase_all (nums32 left (drop at s)) (take m held)
-    → (true ≡ b) × (true ≡ true → (count ≤ n) × (take (n - count) held ≡ rest))
-evicted s at zero m n count held rest b h e f g =
-    let d : n - count ≡ m = omega arith in
-    (sym f, (λ _. (omega arith, rw d (sym g))))
-evicted s at (suc left) m n count held rest b h e f g = absurd (omega arith)
+-- what is left is no longer than what was held
+shorter : (p : ℕ) (xs : List ℕ) → length (erase p xs) ≤ length xs
+shorter p [] = omega arith
+shorter p (x ∷ xs) = let l = shorter p xs in cases (eqb p x) (λ m. rw m (omega arith)) (λ m. rw m (omega arith))
 
--- nothing is said of the list after a page was missing
-pub missing : {A : Type 0} (b : Bool) → b ≡ false → (false ≡ b) × (false ≡ true → A)
-missing b e = (sym e, (λ z. absurd (false≢true z)))
+pub shorter_all : (ps xs : List ℕ) → length (erase_all ps xs) ≤ length xs
+shorter_all [] xs = omega arith
+shorter_all (p ∷ ps) xs = let l = shorter p xs in let m = shorter_all ps (erase p xs) in omega arith

@@ -1,55 +1,16 @@
 -- Laws of the PFs read off the file.
-use Prim.Native.Nat.{ℕ, zero, suc, ◌+◌, ◌-◌, ◌*◌, ◌≤◌, ◌<◌}
-use native.Mathlib.Numerals.{add-one}
+use Prim.Native.Nat.{ℕ, zero, suc, ◌+◌, ◌-◌, ◌*◌, ◌<◌}
 use native.Mathlib.Omega.{arith}
 use mathlib.Core.Bool.{true, false}
-use mathlib.Core.List.{List, [], ◌∷◌, ◌++◌, append_assoc, append-nil}
-use mathlib.Core.Path.{◌≡◌, refl, sym, ap, ◌∙◌}
+use mathlib.Core.List.{List, [], ◌∷◌, ◌++◌, append_assoc}
+use mathlib.Core.Path.{◌≡◌, refl, sym, ap}
 use lib.Dec.{eqb}
-use lib.ListN.{length, take, drop, set}
-use lib.Seq.{take-suc-set}
+use lib.ListN.{length, drop}
 use borrow.Author.Tests.{eq-eqb, ne_eqb}
 use Rattle.lists.specs.Choice.{◌or◌}
 use Rattle.lists.specs.Pages.{mem}
 use Rattle.wire.specs.Numbers.{num32}
 use Rattle.judge.specs.inner.Fetches.{fetched_pages}
-
--- the first of them, and the rest
-pub first_fetch : (s : List ℕ) (at left : ℕ) → 0 < left → fetched_pages s at left ≡ num32 (drop (at + 6) s) ∷ fetched_pages s (at + 10) (left - 1)
-first_fetch s at zero h = absurd (omega arith)
-first_fetch s at (suc left) h = let e : suc left - 1 ≡ left = omega arith in rw e
-
--- Whether a page is among them
-
-module _ (s : List ℕ) (at left page other : ℕ) (h : 0 < left) (e : other ≡ num32 (drop (at + 6) s)) where
-  pub fetched_here : other ≡ page → mem page (fetched_pages s at left) ≡ true
-  unfolding ◌or◌
-  fetched_here q =
-      let m : eqb page (num32 (drop (at + 6) s)) ≡ true = eq-eqb _ _ (sym q ∙ e) in
-      rw (first_fetch s at left h, m)
-
-  pub fetched_next : (other ≡ page → ⊥) → mem page (fetched_pages s at left) ≡ mem page (fetched_pages s (at + 10) (left - 1))
-  unfolding ◌or◌
-  fetched_next q =
-      let m : eqb page (num32 (drop (at + 6) s)) ≡ false = ne_eqb _ _ (λ w. q (e ∙ sym w)) in
-      rw (first_fetch s at left h, m)
-
-  -- the first of them stored behind the m pages held
-  pub settled_next : (held : List ℕ) (m : ℕ) → m < length held
-      → take (m + 1) (set held m other) ++ fetched_pages s (at + 10) (left - 1) ≡ take m held ++ fetched_pages s at left
-  settled_next held m room =
-      rw (first_fetch s at left h, add-one m, take-suc-set held m other room, append_assoc (take m held) (other ∷ []) (fetched_pages s (at + 10) (left - 1)), e)
-
-pub fetched_none : (s : List ℕ) (at left page : ℕ) → left ≤ 0 → mem page (fetched_pages s at left) ≡ false
-fetched_none s at zero page h = refl
-fetched_none s at (suc left) page h = absurd (omega arith)
-
-pub settled_all : (s held before : List ℕ) (at left m count n : ℕ) → left ≤ 0 → m + left ≡ n + count → take m held ++ fetched_pages s at left ≡ before
-    → take (n + count) held ≡ before
-settled_all s held before at zero m count n h e q =
-    let w : n + count ≡ m = omega arith in
-    rw w (sym (append-nil (take m held)) ∙ q)
-settled_all s held before at (suc left) m count n h e q = absurd (omega arith)
 
 pub length_fetched : (s : List ℕ) (from count : ℕ) → length (fetched_pages s from count) ≡ count
 length_fetched s from zero = refl
@@ -62,3 +23,34 @@ fetched_snoc s from (suc count) =
     let e : suc count + 1 ≡ suc (count + 1) = omega arith in
     let d : from + 10 * suc count + 6 ≡ from + 10 + 10 * count + 6 = omega arith in
     rw (e, d) (ap (λ (l : List ℕ). num32 (drop (from + 6) s) ∷ l) (fetched_snoc s (from + 10) count))
+
+-- the first of them, and the rest
+first_fetch : (s : List ℕ) (at left : ℕ) → 0 < left → fetched_pages s at left ≡ num32 (drop (at + 6) s) ∷ fetched_pages s (at + 10) (left - 1)
+first_fetch s at zero h = absurd (omega arith)
+first_fetch s at (suc left) h = let e : suc left - 1 ≡ left = omega arith in rw e
+
+-- Whether a page is among those from the `done`th on
+
+abbrev pub behind : (s : List ℕ) (from count done : ℕ) → List ℕ
+behind s from count done = fetched_pages s (from + 10 * done) (count - done)
+
+module _ (s : List ℕ) (from count done page other : ℕ) (h : done < count) (e : other ≡ num32 (drop (from + 10 * done + 6) s)) where
+  next : behind s from count done ≡ other ∷ behind s from count (done + 1)
+  next =
+      let a : from + 10 * done + 10 ≡ from + 10 * (done + 1) = omega arith in
+      let b : count - done - 1 ≡ count - (done + 1) = omega arith in
+      rw (e, ← a, ← b) (first_fetch s (from + 10 * done) (count - done) (omega arith))
+
+  pub fetched_here : other ≡ page → mem page (behind s from count done) ≡ true
+  unfolding ◌or◌
+  fetched_here q = let m : eqb page other ≡ true = eq-eqb _ _ (sym q) in rw (next, m)
+
+  pub fetched_next : (other ≡ page → ⊥) → mem page (behind s from count done) ≡ mem page (behind s from count (done + 1))
+  unfolding ◌or◌
+  fetched_next q = let m : eqb page other ≡ false = ne_eqb _ _ (λ w. q (sym w)) in rw (next, m)
+
+-- one more of them joins the pages held
+pub settled_next : (s : List ℕ) (from done page : ℕ) (first held after : List ℕ) → page ≡ num32 (drop (from + 10 * done + 6) s)
+    → held ≡ first ++ fetched_pages s from done → after ≡ held ++ (page ∷ []) → after ≡ first ++ fetched_pages s from (done + 1)
+settled_next s from done page first held after e h w =
+    rw (w, h, fetched_snoc s from done, ← e) (append_assoc first (fetched_pages s from done) (page ∷ []))

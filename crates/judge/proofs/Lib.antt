@@ -5,4 +5,3 @@ pub mod EntryLaws
 pub mod ManyLaws
 pub mod RunLaws
 pub mod FileLaws
-pub mod SignedLaws

@@ -1,11 +1,12 @@
 -- Laws behind reading on over the PFs of one request.
+use Rattle.std.specs.Prelude.{Err}
 use Prim.Native.Nat.{ℕ, ◌+◌, ◌-◌, ◌*◌, ◌≤◌, ◌<◌}
 use native.Mathlib.Omega.{arith}
 use mathlib.Core.Bool.{Bool, true, false}
 use mathlib.Core.List.{List, [], ◌∷◌, ◌++◌, append_assoc}
 use mathlib.Core.Path.{◌≡◌, refl, sym, ap, ◌∙◌}
 use lib.Dec.{leb, ltb}
-use lib.ListN.{length, take, drop}
+use lib.ListN.{length, drop}
 use borrow.Author.Tests.{lt-ltb}
 use Rattle.lists.specs.Choice.{◌or◌}
 use Rattle.lists.specs.Pages.{mem}
@@ -14,43 +15,34 @@ use Rattle.lists.proofs.Leaves.{mem_append}
 use Rattle.lists.proofs.Pages.{mem_append_l}
 use Rattle.repeats.specs.Bits.{words, is_marked, with_mark, AllMarked}
 use Rattle.repeats.proofs.BitLaws.{all_more, length_marked, unmarked}
+use Rattle.paging.specs.declared.reasons.Refusal.TheVariants.{WrongRecord}
 use Rattle.paging.specs.Schedule.{pf}
 use Rattle.wire.specs.Numbers.{num32}
-use Rattle.reading.specs.Answers.{schedule_answer}
 use Rattle.reading.specs.Files.{entries_from, before}
 use Rattle.reading.specs.Reading.{read_schedule}
 use Rattle.reading.specs.Reading as reading
-use Rattle.reading.specs.declared.ScheduleRecord.{ScheduleRecord}
-use Rattle.reading.specs.declared.ScheduleRecord.TheVariants as recorded
 use Rattle.reading.proofs.Facts.{schedule_says, PfAt}
 use Rattle.reading.proofs.Walk.{entries_fetch}
 use Rattle.judging.specs.Answer.{refused}
 use Rattle.cursor.specs.Cursor.{requests_left}
 use Rattle.judging.specs.Judging.{Standing, Step, on, stop, Closed, closed, overfull, closing, opened, acted, and_then, stepped}
 use Rattle.judging.proofs.Exact.{closing_length}
-use Rattle.judge.specs.declared.entries.Place.{Place}
-use Rattle.judge.specs.declared.entries.Step as steps
-use Rattle.judge.specs.declared.entries.Step.TheVariants.{On, Stop}
-use Rattle.judge.specs.declared.many.Ahead.{Ahead}
-use Rattle.judge.specs.declared.many.Ahead.TheVariants as ahead
+use Rattle.judge.specs.declared.place.Files.{Files}
+use Rattle.judge.specs.declared.place.Place.{Place}
 use Rattle.judge.specs.inner.Fetches.{fetched_pages}
-use Rattle.judge.specs.inner.Many.{AheadIs, FetchesReady, fetching, More, ReadOn, ReadyStep, ReadOnStep}
-use Rattle.judge.specs.inner.Places.{standing, Sound, SoundStep}
+use Rattle.judge.specs.inner.Many.{fetching, More, ReadOn}
+use Rattle.judge.specs.inner.Places.{standing, Sound}
 use Rattle.judge.specs.inner.Verdicts.{place_answer}
 use Rattle.judge.proofs.EntryLaws.{stays}
 use Rattle.judge.proofs.FetchLaws.{fetched_snoc}
 
 -- The record ahead
 
-pub ahead_is : (a : ℕ) (s : List ℕ) (at t : ℕ) (r : ScheduleRecord) → schedule_answer r ≡ read_schedule a s at
-    → (own page next : ℕ) → r ≡ recorded.Fetch own page next → own ≡ t → read_schedule a s at ≡ reading.fetch t page (at + 10)
-ahead_is a s at t r q own page next e w =
-    let answer : read_schedule a s at ≡ reading.fetch own page next = sym q ∙ ap schedule_answer e in
-    let f = schedule_says a s at (reading.fetch own page next) answer in
-    answer ∙ ap (λ (x : ℕ). reading.fetch x page next) w ∙ ap (λ (x : ℕ). reading.fetch t page x) f.behind
-
-pub ahead_page : (a : ℕ) (s : List ℕ) (at t : ℕ) (r : Ahead) (page : ℕ) → r ≡ ahead.Page page → AheadIs a s at t r → read_schedule a s at ≡ reading.fetch t page (at + 10)
-ahead_page a s at t r page e f = rw e at f
+pub ahead_is : (a : ℕ) (s : List ℕ) (at t own page next : ℕ) → reading.fetch own page next ≡ read_schedule a s at → own ≡ t
+    → read_schedule a s at ≡ reading.fetch t page (at + 10)
+ahead_is a s at t own page next q w =
+    let f = schedule_says a s at (reading.fetch own page next) (sym q) in
+    sym q ∙ ap (λ (x : ℕ). reading.fetch x page next) w ∙ ap (λ (x : ℕ). reading.fetch t page x) f.behind
 
 -- The pages that are known
 
@@ -71,34 +63,30 @@ pub mark_next : (s : List ℕ) (from count : ℕ) (marks after : List ℕ) (page
 mark_next s from count marks after page size e w all =
     rw (e, fetched_snoc s from count, ← w) (all_more marks page size (fetched_pages s from count) all)
 
-pub mark_last : (s : List ℕ) (from count done : ℕ) (marks : List ℕ) → done ≤ count → count ≤ done
-    → AllMarked marks (fetched_pages s from done) → AllMarked marks (fetched_pages s from count)
-mark_last s from count done marks l h all = let e : count ≡ done = omega arith in rw e all
-
 -- One PF of the open request
 
-module _ (a : ℕ) (schedule held : List ℕ) (p : Place) (page : ℕ) where
+module _ (f : Files) (held : List ℕ) (p : Place) (page : ℕ) where
   abbrev here : ℕ
   here = p.from + 10 * p.fetches
 
   abbrev pages : List ℕ
-  pages = take p.n held ++ fetched_pages schedule p.from p.fetches
+  pages = held ++ fetched_pages f.schedule.now p.from p.fetches
 
-  module _ (e : read_schedule a schedule here ≡ reading.fetch p.t page (here + 10)) where
-    pub ahead_fact : PfAt schedule here p.t page (here + 10)
-    ahead_fact = schedule_says a schedule here (reading.fetch p.t page (here + 10)) e
+  module _ (e : read_schedule f.a f.schedule.now here ≡ reading.fetch p.t page (here + 10)) where
+    pub ahead_fact : PfAt f.schedule.now here p.t page (here + 10)
+    ahead_fact = schedule_says f.a f.schedule.now here (reading.fetch p.t page (here + 10)) e
 
-    module _ (k : ℕ) (trace : List ℕ) (some : 0 < length (requests_left trace p.rest).held) where
-      acts_here : stepped k (pf p.t page) (standing trace schedule held p) ≡ acted (pf p.t page) (standing trace schedule held p)
-      acts_here = rw (← stays k p.t (standing trace schedule held p) refl (omega arith))
+    module _ (some : 0 < length (requests_left f.trace.now p.rest).held) where
+      acts_here : stepped f.k (pf p.t page) (standing f held p) ≡ acted (pf p.t page) (standing f held p)
+      acts_here = rw (← stays f.k p.t (standing f held p) refl (omega arith))
 
-      file : entries_from a schedule here ≡ before (pf p.t page ∷ []) (entries_from a schedule (here + 10))
-      file = entries_fetch a schedule here p.t page (here + 10) e
+      file : entries_from f.a f.schedule.now here ≡ before (pf p.t page ∷ []) (entries_from f.a f.schedule.now (here + 10))
+      file = entries_fetch f.a f.schedule.now here p.t page (here + 10) e
 
-      pub known_stops : true ≡ mem page pages → refused 6 ≡ place_answer k a trace schedule held p
+      pub known_stops : true ≡ mem page pages → refused 6 ≡ place_answer f held p
       known_stops m = rw (file, acts_here, ← m)
 
-      pub new_goes_on : false ≡ mem page pages → place_answer k a trace schedule held (fetching p (p.fetches + 1)) ≡ place_answer k a trace schedule held p
+      pub new_goes_on : false ≡ mem page pages → place_answer f held (fetching p (p.fetches + 1)) ≡ place_answer f held p
       new_goes_on m =
           let at : p.from + 10 * (p.fetches + 1) ≡ here + 10 = omega arith in
           rw (
@@ -106,69 +94,42 @@ module _ (a : ℕ) (schedule held : List ℕ) (p : Place) (page : ℕ) where
             file,
             acts_here,
             ← m,
-            fetched_snoc schedule p.from p.fetches,
+            fetched_snoc f.schedule.now p.from p.fetches,
             ← ahead_fact.page_is,
             lt-ltb 0 (p.fetches + 1) (omega arith),
-            append_assoc (take p.n held) (fetched_pages schedule p.from p.fetches) (page ∷ []),
+            append_assoc held (fetched_pages f.schedule.now p.from p.fetches) (page ∷ []),
           )
 
 -- The loop: what is left to read from so many PFs on gives what the whole gives, and their marks are set
 
-pub record Reads (a : ℕ) (schedule held : List ℕ) (p : Place) (fetches : ℕ) (marks : List ℕ) : Type 0 where
+pub record Reads (f : Files) (held : List ℕ) (p : Place) (fetches : ℕ) (marks : List ℕ) : Type 0 where
   pub further : p.fetches ≤ fetches
-  pub inside : p.from + 10 * fetches ≤ length schedule
+  pub inside : p.from + 10 * fetches ≤ length f.schedule.now
   pub size : length marks ≡ words
-  pub all : AllMarked marks (fetched_pages schedule p.from fetches)
-  pub answer : (k : ℕ) → (trace : List ℕ) → 0 < length (requests_left trace p.rest).held
-      → place_answer k a trace schedule held (fetching p fetches) ≡ place_answer k a trace schedule held p
+  pub all : AllMarked marks (fetched_pages f.schedule.now p.from fetches)
+  pub answer : 0 < length (requests_left f.trace.now p.rest).held → place_answer f held (fetching p fetches) ≡ place_answer f held p
 
-module _ (a : ℕ) (schedule held : List ℕ) (p : Place) where
-  pub reads_none : (marks : List ℕ) → FetchesReady schedule held p → length marks ≡ words → AllMarked marks (fetched_pages schedule p.from p.fetches)
-      → Reads a schedule held p p.fetches marks
-  reads_none marks r size all = record { further = omega arith; inside = r.inside; size = size; all = all; answer = λ k trace some. refl }
+module _ (f : Files) (held : List ℕ) (p : Place) where
+  module _ (fetches : ℕ) (marks : List ℕ) (r : Reads f held p fetches marks) where
+    module _ (page : ℕ) (e : read_schedule f.a f.schedule.now (p.from + 10 * fetches) ≡ reading.fetch p.t page (p.from + 10 * fetches + 10)) where
+      pub reads_inside : p.from + 10 * fetches + 10 ≤ length f.schedule.now
+      reads_inside = (ahead_fact f held (fetching p fetches) page e).inside
 
-  module _ (fetches : ℕ) (marks : List ℕ) (r : Reads a schedule held p fetches marks) where
-    pub reads_end : ReadOn a schedule held p (On (fetching p fetches))
-    reads_end = record { answer = r.answer; more = record { same = refl; further = r.further; inside = r.inside } }
+      pub reads_stop : true ≡ mem page (held ++ fetched_pages f.schedule.now p.from fetches) → ReadOn f held p (Err WrongRecord)
+      reads_stop m = record { answer = λ some. known_stops f held (fetching p fetches) page e some m ∙ r.answer some; more = tt }
 
-    module _ (page : ℕ) (e : read_schedule a schedule (p.from + 10 * fetches) ≡ reading.fetch p.t page (p.from + 10 * fetches + 10)) where
-      pub reads_inside : p.from + 10 * fetches + 10 ≤ length schedule
-      reads_inside = (ahead_fact a schedule held (fetching p fetches) page e).inside
-
-      pub reads_stop : true ≡ mem page (take p.n held ++ fetched_pages schedule p.from fetches) → ReadOn a schedule held p (Stop 6)
-      reads_stop m =
-          record {
-            answer = λ k trace some. known_stops a schedule held (fetching p fetches) page e k trace some m ∙ r.answer k trace some;
-            more = tt;
-          }
-
-      pub reads_next : (after : List ℕ) → false ≡ mem page (take p.n held ++ fetched_pages schedule p.from fetches) → after ≡ with_mark marks page
-          → Reads a schedule held p (fetches + 1) after
+      pub reads_next : (after : List ℕ) → false ≡ mem page (held ++ fetched_pages f.schedule.now p.from fetches) → after ≡ with_mark marks page
+          → Reads f held p (fetches + 1) after
       reads_next after m w =
           let i = reads_inside in
-          let f = r.further in
+          let l = r.further in
           record {
             further = omega arith;
             inside = omega arith;
             size = ap length w ∙ length_marked marks page ∙ r.size;
-            all = mark_next schedule p.from fetches marks after page r.size w (ahead_fact a schedule held (fetching p fetches) page e).page_is r.all;
-            answer = λ k trace some. new_goes_on a schedule held (fetching p fetches) page e k trace some m ∙ r.answer k trace some;
+            all = mark_next f.schedule.now p.from fetches marks after page r.size w (ahead_fact f held (fetching p fetches) page e).page_is r.all;
+            answer = λ some. new_goes_on f held (fetching p fetches) page e some m ∙ r.answer some;
           }
-
--- Behind a step
-
-pub on_ready : (schedule held : List ℕ) (s : steps.Step) (p : Place) → s ≡ On p → ReadyStep schedule held s → FetchesReady schedule held p
-on_ready schedule held s p e f = rw e at f
-
-pub on_reads : (a : ℕ) (schedule held : List ℕ) (s r : steps.Step) (p : Place) → s ≡ On p → ReadOn a schedule held p r → ReadOnStep a schedule held s r
-on_reads a schedule held s r p e f = rw e f
-
-pub stop_reads : (a : ℕ) (schedule held : List ℕ) (s : steps.Step) (number : ℕ) → s ≡ Stop number → ReadOnStep a schedule held s (Stop number)
-stop_reads a schedule held s number e = rw e refl
-
-pub nothing_read : (a : ℕ) (schedule held : List ℕ) (p : Place) → FetchesReady schedule held p → ReadOn a schedule held p (On p)
-nothing_read a schedule held p r =
-    record { answer = λ k trace some. refl; more = record { same = refl; further = omega arith; inside = r.inside } }
 
 -- After a PF its request is one of the trace
 
@@ -198,21 +159,15 @@ stepped_more k u page s next w =
 
 -- A sound place stays sound
 
-pub more_sound : (k requests : ℕ) (trace schedule : List ℕ) (p q : Place) → Sound k requests trace schedule p → More schedule p q → Sound k requests trace schedule q
-more_sound k requests trace schedule p q f m =
+pub more_sound : (f : Files) (held : List ℕ) (p q : Place) → Sound f held p → More f.schedule.now p q → Sound f held q
+more_sound f held p q g m =
     rw m.same
     (record {
-      room = f.room;
+      size = g.size;
+      room = g.room;
       inside = m.inside;
-      behind = f.behind;
-      started = f.started;
-      undamaged = f.undamaged;
-      counted = f.counted;
+      behind = g.behind;
+      started = g.started;
+      undamaged = g.undamaged;
+      counted = g.counted;
     })
-
-pub sound_ready : (k requests next : ℕ) (trace schedule held : List ℕ) (s : steps.Step) → SoundStep k requests trace schedule next s → k ≤ length held
-    → ReadyStep schedule held s
-sound_ready k requests next trace schedule held (On p) d h =
-    let r = d.sound.room in
-    record { room = omega arith; inside = d.sound.inside }
-sound_ready k requests next trace schedule held (Stop number) d h = tt

@@ -1,146 +1,96 @@
 -- Laws behind the run over a schedule's records.
-use Prim.Native.Nat.{ℕ, ◌+◌, ◌-◌, ◌*◌, ◌≤◌, ◌<◌}
+use Rattle.std.specs.Prelude.{Result, Ok, Err}
+use Prim.Native.Nat.{ℕ, ◌+◌, ◌*◌, ◌<◌}
 use native.Mathlib.Omega.{arith}
-use mathlib.Core.List.{List, [], ◌∷◌, ◌++◌}
-use mathlib.Core.Path.{◌≡◌, sym, ap, ◌∙◌}
-use lib.ListN.{length, take, drop}
+use mathlib.Core.List.{List, [], ◌∷◌}
+use mathlib.Core.Path.{◌≡◌, refl, sym, ap, ◌∙◌}
+use lib.ListN.{drop}
 use borrow.Author.Tests.{ne_eqb}
+use Rattle.paging.specs.Numbers.{number_of}
+use Rattle.paging.specs.declared.reasons.Refusal.{Refusal}
 use Rattle.paging.specs.Schedule.{Entry, ev, pf}
 use Rattle.wire.specs.Numbers.{nums32}
-use Rattle.reading.specs.Answers.{schedule_answer}
 use Rattle.reading.specs.Files.{entries_from, before}
 use Rattle.reading.specs.Reading.{read_schedule}
 use Rattle.reading.specs.Reading as reading
-use Rattle.reading.specs.declared.ScheduleRecord.{ScheduleRecord}
-use Rattle.reading.specs.declared.ScheduleRecord.TheVariants as recorded
 use Rattle.reading.proofs.Facts.{schedule_says, EvAt, PfAt}
 use Rattle.reading.proofs.Walk.{entries_refused, entries_ended, entries_bundle, entries_fetch}
-use Rattle.judging.specs.Answer.{Answer, cost, refused}
-use Rattle.cursor.specs.Cursor.{requests_left}
-use Rattle.cursor.specs.declared.Rest.{Rest}
-use Rattle.judging.specs.Judging.{closing, stepped, ended}
-use Rattle.judge.specs.declared.closing.Closing as closings
-use Rattle.judge.specs.declared.closing.Closing.TheVariants.{Open, Overfull}
-use Rattle.judge.specs.declared.entries.Place.{Place}
-use Rattle.judge.specs.declared.entries.Step as steps
-use Rattle.judge.specs.declared.entries.Step.TheVariants.{On, Stop}
-use Rattle.judge.specs.declared.run.Turn.{Turn}
-use Rattle.judge.specs.declared.run.Turn.TheVariants as turn
-use Rattle.judge.specs.declared.run.Verdict.{Verdict}
-use Rattle.judge.specs.inner.Fetches.{fetched_pages}
-use Rattle.judge.specs.inner.Many.{MoreStep, ReadOnStep}
-use Rattle.judge.specs.inner.Places.{standing, Sound, SoundStep, step_of, closing_of}
-use Rattle.judge.specs.inner.Verdicts.{place_answer, turn_of, turn_answer, SoundTurn, Onward, verdict_answer, AtMost}
+use Rattle.judging.specs.Answer.{refused}
+use Rattle.judging.specs.Judging.{stepped, ended}
+use Rattle.judge.specs.declared.place.Files.{Files}
+use Rattle.judge.specs.declared.place.Place.{Place}
+use Rattle.judge.specs.inner.Many.{ReadOn, More}
+use Rattle.judge.specs.inner.Places.{standing, Sound, SoundAt, step_of}
+use Rattle.judge.specs.inner.Verdicts.{place_answer, step_answer, Onward}
 use Rattle.judge.proofs.ManyLaws.{stepped_more, more_sound}
-
--- The end
-
-module _ (k requests : ℕ) (trace schedule held : List ℕ) (p : Place) (f : Sound k requests trace schedule p) where
-  pub few : p.bundles ≤ length schedule
-  few = let b = f.behind in let i = f.inside in omega arith
-
-  pub none_left : p.t ≡ requests → cost p.bundles ≡ ended k 0 (standing trace schedule held p)
-  none_left e =
-      let d = f.counted in
-      let none : length (requests_left trace p.rest).held ≡ 0 = omega arith in
-      rw none
-
-  module _ (r : closings.Closing) (after : List ℕ)
-      (q : closing_of trace after r ≡ closing k (requests - p.t) (requests_left trace p.rest).held (take p.n held ++ fetched_pages schedule p.from p.fetches))
-    where
-      all : closing_of trace after r ≡ closing k (length (requests_left trace p.rest).held) (requests_left trace p.rest).held (take p.n held ++ fetched_pages schedule p.from p.fetches)
-      all =
-          let d = f.counted in
-          let size : requests - p.t ≡ length (requests_left trace p.rest).held = omega arith in
-          rw size at q
-
-      pub left_over : r ≡ Overfull → refused 7 ≡ ended k 0 (standing trace schedule held p)
-      left_over e = rw (← all, e)
-
-      pub left_closed : (rest : Rest) (n : ℕ) → r ≡ Open rest n → cost p.bundles ≡ ended k 0 (standing trace schedule held p)
-      left_closed rest n e = rw (← all, e)
 
 -- One record
 
--- a turn that leads on over more PFs
-more_turn : (k requests : ℕ) (trace schedule : List ℕ) (p q : Place) (y : steps.Step) → Onward k requests trace schedule p q → MoreStep schedule q y
-    → SoundTurn k requests trace schedule p (turn_of y)
-more_turn k requests trace schedule p q (On r) o m =
-    let from = ap (λ (x : Place). x.from) m.same in
-    let z = m.further in
-    let w = o.further in
-    record { sound = more_sound k requests trace schedule q r o.sound m; further = omega arith }
-more_turn k requests trace schedule p q (Stop number) o m = tt
-
-module _ (k a requests : ℕ) (trace schedule held : List ℕ) (p : Place) (f : Sound k requests trace schedule p) where
+module _ (f : Files) (held : List ℕ) (p : Place) (g : Sound f held p) where
   abbrev here : ℕ
   here = p.from + 10 * p.fetches
 
-  module _ (e : Entry) (next : ℕ) (w : entries_from a schedule here ≡ before (e ∷ []) (entries_from a schedule next)) (l : here < next) where
-    goes_on : (r : steps.Step) (after : List ℕ) → step_of trace schedule after r ≡ stepped k e (standing trace schedule held p)
-        → SoundStep k requests trace schedule next r
-        → (turn_answer k a trace schedule after (turn_of r) ≡ place_answer k a trace schedule held p) × SoundTurn k requests trace schedule p (turn_of r)
-    goes_on (On q) after s d = (rw (w, ← s, d.ends), record { sound = d.sound; further = let z = d.ends in omega arith })
-    goes_on (Stop number) after s d = (rw (w, ← s), tt)
+  module _ (e : Entry) (next : ℕ) (w : entries_from f.a f.schedule.now here ≡ before (e ∷ []) (entries_from f.a f.schedule.now next)) (after : List ℕ) where
+    goes_on : (q : Place) → step_of f after (Ok q) ≡ stepped f.k e (standing f held p) → q.from + 10 * q.fetches ≡ next → place_answer f after q ≡ place_answer f held p
+    goes_on q s d = rw (w, ← s, d)
 
-  module _ (r : ScheduleRecord) (q : schedule_answer r ≡ read_schedule a schedule here) where
-    module _ (t n from next : ℕ) (e : r ≡ recorded.Bundle t n from next) where
-      answers : read_schedule a schedule here ≡ reading.bundle t n from next
-      answers = sym q ∙ ap schedule_answer e
+    halts : (reason : Refusal) → step_of f after (Err reason) ≡ stepped f.k e (standing f held p) → refused (number_of reason) ≡ place_answer f held p
+    halts reason s = rw (w, ← s)
 
-      pub ev_fact : EvAt a schedule here t n from next
-      ev_fact = schedule_says a schedule here (reading.bundle t n from next) answers
+  further_on : (next : ℕ) (after : List ℕ) (q : Place) → here < next → SoundAt f after next q → Onward f after p q
+  further_on next after q l d = record { sound = d.sound; further = let z = d.ends in omega arith }
 
-      pub ev_turn : (x : steps.Step) (after : List ℕ) → step_of trace schedule after x ≡ stepped k (ev t (nums32 n (drop from schedule))) (standing trace schedule held p)
-          → SoundStep k requests trace schedule next x
-          → (turn_answer k a trace schedule after (turn_of x) ≡ place_answer k a trace schedule held p) × SoundTurn k requests trace schedule p (turn_of x)
-      ev_turn = let b = ev_fact.behind in goes_on (ev t (nums32 n (drop from schedule))) next (entries_bundle a schedule here t n from next answers) (omega arith)
+  module _ (t n from next : ℕ) (w : reading.bundle t n from next ≡ read_schedule f.a f.schedule.now here) where
+    pub ev_fact : EvAt f.a f.schedule.now here t n from next
+    ev_fact = schedule_says f.a f.schedule.now here (reading.bundle t n from next) (sym w)
 
-    module _ (t page next : ℕ) (e : r ≡ recorded.Fetch t page next) where
-      pf_answers : read_schedule a schedule here ≡ reading.fetch t page next
-      pf_answers = sym q ∙ ap schedule_answer e
+    module _ (after : List ℕ) where
+      pub ev_goes_on : (q : Place) → step_of f after (Ok q) ≡ stepped f.k (ev t (nums32 n (drop from f.schedule.now))) (standing f held p) → SoundAt f after next q
+          → place_answer f after q ≡ place_answer f held p
+      ev_goes_on q s d = goes_on _ next (entries_bundle f.a f.schedule.now here t n from next (sym w)) after q s d.ends
 
-      pub pf_fact : PfAt schedule here t page next
-      pf_fact = schedule_says a schedule here (reading.fetch t page next) pf_answers
+      pub ev_halts : (reason : Refusal) → step_of f after (Err reason) ≡ stepped f.k (ev t (nums32 n (drop from f.schedule.now))) (standing f held p)
+          → refused (number_of reason) ≡ place_answer f held p
+      ev_halts = halts _ next (entries_bundle f.a f.schedule.now here t n from next (sym w)) after
 
-      pub pf_turn : (x : steps.Step) (after : List ℕ) → step_of trace schedule after x ≡ stepped k (pf t page) (standing trace schedule held p)
-          → SoundStep k requests trace schedule (here + 10) x
-          → (turn_answer k a trace schedule after (turn_of x) ≡ place_answer k a trace schedule held p) × SoundTurn k requests trace schedule p (turn_of x)
-      pf_turn =
-          let w = rw pf_fact.behind at (entries_fetch a schedule here t page next pf_answers) in
-          goes_on (pf t page) (here + 10) w (omega arith)
+      pub ev_onward : (q : Place) → SoundAt f after next q → Onward f after p q
+      ev_onward q = let b = ev_fact.behind in further_on next after q (omega arith)
+
+  module _ (t page next : ℕ) (w : reading.fetch t page next ≡ read_schedule f.a f.schedule.now here) where
+    pub pf_fact : PfAt f.schedule.now here t page next
+    pf_fact = schedule_says f.a f.schedule.now here (reading.fetch t page next) (sym w)
+
+    file : entries_from f.a f.schedule.now here ≡ before (pf t page ∷ []) (entries_from f.a f.schedule.now (here + 10))
+    file = rw pf_fact.behind at (entries_fetch f.a f.schedule.now here t page next (sym w))
+
+    module _ (after : List ℕ) where
+      pub pf_halts : (reason : Refusal) → step_of f after (Err reason) ≡ stepped f.k (pf t page) (standing f held p) → refused (number_of reason) ≡ place_answer f held p
+      pf_halts = halts _ (here + 10) file after
 
       -- the same with the PFs that follow at its request
-      pub pfs_turn : (x y : steps.Step) (after : List ℕ) → step_of trace schedule after x ≡ stepped k (pf t page) (standing trace schedule held p)
-          → SoundStep k requests trace schedule (here + 10) x → ReadOnStep a schedule after x y
-          → (turn_answer k a trace schedule after (turn_of y) ≡ place_answer k a trace schedule held p) × SoundTurn k requests trace schedule p (turn_of y)
-      pfs_turn (On q) y after s d f =
-          let one = pf_turn (On q) after s d in
-          let some = stepped_more k t page (standing trace schedule held p) (standing trace schedule after q) s in
-          (f.answer k trace some ∙ one.0, more_turn k requests trace schedule p q y one.1 f.more)
-      pfs_turn (Stop number) y after s d f = rw f (pf_turn (Stop number) after s d)
+      module _ (q : Place) (d : SoundAt f after (here + 10) q) where
+        pub pf_goes_on : (r : Result Place Refusal) → step_of f after (Ok q) ≡ stepped f.k (pf t page) (standing f held p) → ReadOn f after q r
+            → step_answer f after r ≡ place_answer f held p
+        pf_goes_on r s m =
+            m.answer (stepped_more f.k t page (standing f held p) (standing f after q) s) ∙ goes_on _ (here + 10) file after q s d.ends
 
-    pub end_turn : (x : Answer) → r ≡ recorded.End → x ≡ ended k 0 (standing trace schedule held p) → x ≡ place_answer k a trace schedule held p
-    end_turn x e w = rw (entries_ended a schedule here (sym q ∙ ap schedule_answer e)) w
+        pub pf_onward : (last : Place) → More f.schedule.now q last → Onward f after p last
+        pf_onward last m =
+            let from = ap (λ (x : Place). x.from) m.same in
+            let z = m.further in
+            let e = d.ends in
+            record { sound = more_sound f after q last d.sound m; further = omega arith }
 
-    pub refused_turn : (n : ℕ) → r ≡ recorded.Refused n → refused n ≡ place_answer k a trace schedule held p
-    refused_turn n e =
-        let answer = sym q ∙ ap schedule_answer e in
-        let some = schedule_says a schedule here (reading.refused n) answer in
-        rw (entries_refused a schedule here n answer, ne_eqb n 0 some)
+  pub end_answer : reading.ended ≡ read_schedule f.a f.schedule.now here → ended f.k 0 (standing f held p) ≡ place_answer f held p
+  end_answer w = rw (entries_ended f.a f.schedule.now here (sym w)) refl
 
-    pub sizes_turn : (k' a' next : ℕ) → r ≡ recorded.Sizes k' a' next → ⊥
-    sizes_turn k' a' next e =
-        let b = (schedule_says a schedule here (reading.sizes k' a' next) (sym q ∙ ap schedule_answer e)).start in
-        let l = f.behind in
-        omega arith
+  pub refused_answer : (n : ℕ) → reading.refused n ≡ read_schedule f.a f.schedule.now here → refused n ≡ place_answer f held p
+  refused_answer n w =
+      let some = schedule_says f.a f.schedule.now here (reading.refused n) (sym w) in
+      rw (entries_refused f.a f.schedule.now here n (sym w), ne_eqb n 0 some)
 
--- All records
-
-pub run_again : (k a requests : ℕ) (trace schedule after : List ℕ) (p q : Place) (r : Turn) (x : Answer) → r ≡ turn.On q → turn_answer k a trace schedule after r ≡ x
-    → SoundTurn k requests trace schedule p r → (place_answer k a trace schedule after q ≡ x) × Onward k requests trace schedule p q
-run_again k a requests trace schedule after p q r x e w f = (rw e at w, rw e at f)
-
-pub run_done : (k a requests : ℕ) (trace schedule after : List ℕ) (p : Place) (v : Verdict) (r : Turn) (x : Answer) → r ≡ turn.Done v → turn_answer k a trace schedule after r ≡ x
-    → SoundTurn k requests trace schedule p r → (verdict_answer v ≡ x) × AtMost (length schedule) v
-run_done k a requests trace schedule after p v r x e w f = (rw e at w, rw e at f)
+  pub no_sizes : (k a next : ℕ) → reading.sizes k a next ≡ read_schedule f.a f.schedule.now here → ⊥
+  no_sizes k a next w =
+      let b = (schedule_says f.a f.schedule.now here (reading.sizes k a next) (sym w)).start in
+      let l = g.behind in
+      omega arith

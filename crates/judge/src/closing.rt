@@ -1,63 +1,48 @@
 // Closing requests, one by one, with a cursor into the trace's file. A run is not written out.
-ghost use Rattle.std.specs.Prelude.{◌+◌, ◌*◌, ◌≤◌, ◌<◌, ◌++◌, ◌≡◌, length, take};
+ghost use Rattle.std.specs.Prelude.{◌+◌, ◌*◌, ◌≤◌, ◌<◌, ◌++◌, ◌≡◌, length};
 ghost use Rattle.cursor.specs.Cursor.{requests_left};
+ghost use Rattle.paging.specs.Refusals.{largest_k};
 ghost use Rattle.judging.specs.Judging.{closing};
 ghost use Rattle.judge.specs.inner.Fetches.{fetched_pages};
-ghost use Rattle.judge.specs.inner.Places.{closing_of, Cursor};
+ghost use Rattle.judge.specs.inner.Places.{closing_of, Cursor, Sound};
 
-use crate::buffer::add;
+use crate::buffer::Held;
 use crate::fetches::settle;
+use crate::place::{Files, Place};
 use cursor::{Rest, next_request};
 
-// What is left from the first request that is not closed on and the number of pages held, or more than k pages after a request.
-#[derive(Clone, Copy)]
-pub(crate) enum Closing {
-    Open { rest: Rest, n: usize },
-    Overfull,
-}
-
-// The next `count` requests from the n pages held.
-fn close(trace: &[u8], first: Rest, count: usize, held: &mut [u32], n: usize, k: usize) -> Closing
-    requires { (0 < first.from) × (count ≤ length (requests_left trace.now first).held) × (n ≤ k) × (k ≤ length held.old) }
-    ensures { (closing_of trace.now held.new result ≡ closing k count (requests_left trace.now first).held (take n held.old))
-        × Cursor trace.now k first result }
+// The next `count` requests: what is left of the trace behind them, or none where more than k pages are held after one.
+fn close(files: &Files<'_>, held: &mut Held, first: Rest, count: usize) -> Option<Rest>
+    requires { (0 < first.from) × (count ≤ length (requests_left files.now.trace.now first).held) × (length held.old ≤ files.now.k) × (files.now.k ≤ largest_k) }
+    ensures closes { closing_of files.now held.new result ≡ closing files.now.k count (requests_left files.now.trace.now first).held held.old }
+    ensures rest { Cursor files.now held.new first result }
 {
     let mut rest = first;
-    let mut left = count;
-    let mut m = n;
-    while left > 0 {
-        let request = next_request(trace, rest);
-        m = add(held, m, k, request.page);
-        rest = request.left;
-        left -= 1;
-        if m > k {
-            return Closing::Overfull;
+    for _done in 0..count {
+        let request = next_request(files.trace, rest);
+        if !held.add(files.k, request.page) {
+            return None;
         }
+        rest = request.left;
     }
-    Closing::Open { rest, n: m }
+    Some(rest)
 }
 
-// The same where the first of them is open: `fetches` PFs of it stand in the schedule from an offset on.
+// The same from a place on, whose request is open: its PFs join the pages held first.
 pub(crate) fn close_open(
-    trace: &[u8],
-    first: Rest,
+    files: &Files<'_>,
+    held: &mut Held,
+    place: Place,
     count: usize,
-    held: &mut [u32],
-    n: usize,
-    k: usize,
-    schedule: &[u8],
-    from: usize,
-    fetches: usize,
-) -> Closing
-    requires { ((0 < first.from) × (0 < count) × (count ≤ length (requests_left trace.now first).held))
-        × ((n ≤ k) × (k ≤ length held.old) × (from + 10 * fetches ≤ length schedule.now)) }
-    ensures { (closing_of trace.now held.new result
-        ≡ closing k count (requests_left trace.now first).held (take n held.old ++ fetched_pages schedule.now from fetches))
-        × Cursor trace.now k first result }
+) -> Option<Rest>
+    requires { Sound files.now held.old place × (0 < count) × (count ≤ length (requests_left files.now.trace.now place.rest).held) }
+    ensures closes { closing_of files.now held.new result
+        ≡ closing files.now.k count (requests_left files.now.trace.now place.rest).held (held.old ++ fetched_pages files.now.schedule.now place.from place.fetches) }
+    ensures rest { Cursor files.now held.new place.rest result }
 {
-    if fetches > k - n {
-        return Closing::Overfull;
+    if place.fetches > files.k - held.len() {
+        return None;
     }
-    settle(schedule, from, fetches, held, n);
-    close(trace, first, count, held, n + fetches, k)
+    settle(files.schedule, place.from, place.fetches, held);
+    close(files, held, place.rest, count)
 }

@@ -1,5 +1,6 @@
 // The judge of schedules (document 01): the bytes of a trace file and of a schedule file in, the cost or a refusal out.
-//   buffer    the pages held, in the first places of a list
+//   place     what the judge works on, and where it stands in it
+//   buffer    the pages held
 //   fetches   the PFs of the open request, read off the schedule's file
 //   closing   closing requests, with a cursor into the trace that stands inside a run too
 //   entries   one record of the schedule: the way to its request, then what it does there
@@ -18,6 +19,7 @@ mod entries;
 mod fetches;
 mod files;
 mod many;
+mod place;
 mod run;
 
 // The cost of the schedule, or the refusal's number made negative.

@@ -1,45 +1,46 @@
 -- The judge's answers as its code gives them, and the definitions' values that they stand for.
-use Rattle.std.specs.Prelude.{ℕ, ◌+◌, ◌*◌, ◌≤◌, ◌<◌, List, length}
+use Rattle.std.specs.Prelude.{ℕ, ◌+◌, ◌*◌, ◌≤◌, ◌<◌, List, Option, Some, None, Result, Ok, Err}
+use Rattle.paging.specs.Numbers.{number_of}
+use Rattle.paging.specs.declared.reasons.Refusal.{Refusal}
 use Rattle.reading.specs.Files.{entries_from}
 use Rattle.judging.specs.Answer.{Answer, cost, refused}
-use Rattle.judging.specs.Judging.{judged_from}
-use Rattle.judge.specs.declared.entries.Place.{Place}
-use Rattle.judge.specs.declared.entries.Step as steps
-use Rattle.judge.specs.declared.entries.Step.TheVariants as step
-use Rattle.judge.specs.declared.run.Turn.{Turn}
-use Rattle.judge.specs.declared.run.Turn.TheVariants as turn
-use Rattle.judge.specs.declared.run.Verdict.{Verdict}
-use Rattle.judge.specs.declared.run.Verdict.TheVariants as verdict
+use Rattle.judging.specs.Judging.{judged_from, ended}
+use Rattle.judge.specs.declared.place.Files.{Files}
+use Rattle.judge.specs.declared.place.Place.{Place}
 use Rattle.judge.specs.inner.Places.{standing, Sound}
 
-abbrev pub verdict_answer : Verdict → Answer
-verdict_answer (verdict.Cost bundles) = cost bundles
-verdict_answer (verdict.Refused number) = refused number
+abbrev pub verdict_answer : Result ℕ Refusal → Answer
+verdict_answer (Ok bundles) = cost bundles
+verdict_answer (Err reason) = refused (number_of reason)
 
 -- a cost that is not above a size: it fits the number that the caller receives
-abbrev pub AtMost : ℕ → Verdict → Type 0
-AtMost size (verdict.Cost bundles) = bundles ≤ size
-AtMost size (verdict.Refused number) = Unit {0}
+abbrev pub AtMost : ℕ → Result ℕ Refusal → Type 0
+AtMost size (Ok bundles) = bundles ≤ size
+AtMost size (Err _) = Unit {0}
 
 -- the answer from a place on: the schedule's records behind it
-abbrev pub place_answer : (k a : ℕ) → (trace schedule held : List ℕ) → Place → Answer
-place_answer k a trace schedule held p =
-    let file = entries_from a schedule (p.from + 10 * p.fetches) in
-    judged_from k file.damage file.held (standing trace schedule held p)
+abbrev pub place_answer : Files → (held : List ℕ) → Place → Answer
+place_answer f held p =
+    let file = entries_from f.a f.schedule.now (p.from + 10 * p.fetches) in
+    judged_from f.k file.damage file.held (standing f held p)
 
-abbrev pub turn_of : steps.Step → Turn
-turn_of (step.On p) = turn.On p
-turn_of (step.Stop number) = turn.Done (verdict.Refused number)
+-- the answer from a step on
+abbrev pub step_answer : Files → (held : List ℕ) → Result Place Refusal → Answer
+step_answer f held (Ok p) = place_answer f held p
+step_answer f held (Err reason) = refused (number_of reason)
 
-abbrev pub turn_answer : (k a : ℕ) → (trace schedule held : List ℕ) → Turn → Answer
-turn_answer k a trace schedule held (turn.On p) = place_answer k a trace schedule held p
-turn_answer k a trace schedule held (turn.Done v) = verdict_answer v
+-- the answer behind a turn from this place on: at the schedule's end it hangs on the requests that are not closed
+abbrev pub turn_answer : Files → (held : List ℕ) → Place → Result (Option Place) Refusal → Answer
+turn_answer f held p (Ok (Some q)) = place_answer f held q
+turn_answer f held p (Ok None) = ended f.k 0 (standing f held p)
+turn_answer f held p (Err reason) = refused (number_of reason)
 
--- a turn leads to a sound place further on in the schedule
-pub record Onward (k requests : ℕ) (trace schedule : List ℕ) (p q : Place) : Type 0 where
-  pub sound : Sound k requests trace schedule q
+-- a turn leads to a sound place further on in the schedule, and the schedule's end leaves the place as sound as it was
+pub record Onward (f : Files) (held : List ℕ) (p q : Place) : Type 0 where
+  pub sound : Sound f held q
   pub further : p.from + 10 * p.fetches < q.from + 10 * q.fetches
 
-abbrev pub SoundTurn : (k requests : ℕ) → (trace schedule : List ℕ) → Place → Turn → Type 0
-SoundTurn k requests trace schedule p (turn.On q) = Onward k requests trace schedule p q
-SoundTurn k requests trace schedule p (turn.Done v) = AtMost (length schedule) v
+abbrev pub SoundTurn : Files → (held : List ℕ) → Place → Result (Option Place) Refusal → Type 0
+SoundTurn f held p (Ok (Some q)) = Onward f held p q
+SoundTurn f held p (Ok None) = Sound f held p
+SoundTurn f held p (Err _) = Unit {0}

@@ -1,8 +1,5 @@
 use Rattle.judge.proofs.ClosingLaws.{Closes}
 use Rattle.judge.proofs.closing.close.Given as goal
 
-abbrev pub invariant-loop-left : goal.invariant-loop-left
-invariant-loop-left l = Closes l.trace l.k l.initial.rest l.count l.initial.held l.n l.rest l.left l.m l.held
-
-abbrev pub decreases-loop-left : goal.decreases-loop-left
-decreases-loop-left l = l.left
+abbrev pub invariant-loop-done : goal.invariant-loop-done
+invariant-loop-done l = Closes l.files.trace.now l.files.k l.initial.rest l.count l._done l.initial.held l.rest l.held

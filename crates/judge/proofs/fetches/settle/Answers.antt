@@ -1,31 +1,12 @@
-use native.Mathlib.Omega.{arith}
-use mathlib.Core.Path.{refl, ◌∙◌}
-use lib.ListN.{length-set}
-use Rattle.judge.proofs.FetchLaws.{settled_next, settled_all}
+use Rattle.std.proofs.Common.{arith, length-append}
+use Rattle.judge.proofs.FetchLaws.{settled_next, length_fetched}
 use Rattle.judge.proofs.fetches.settle.Goals as goal
 
-pub loop-left-init : goal.loop-left-init
-loop-left-init c = (refl, refl, refl, refl)
+pub push-requires : goal.push-requires
+push-requires c =
+    let room = c.requires.1 in
+    let more = c.loop-i-test.true in
+    rw (c.loop-i.invariant, length-append, length_fetched) (omega arith)
 
-pub loop-left-preserved : goal.loop-left-preserved
-loop-left-preserved c =
-    let schedule = c.args.schedule.now in
-    let turn = c.loop-left in
-    let offset = turn.at in
-    let held = turn.held in
-    let inv = turn.invariant in
-    let left = turn.left in
-    let m = c.loop-left.m in (
-      omega arith,
-      omega arith,
-      simp length-set (omega arith),
-      settled_next schedule offset left 0 c.read32.result (omega arith) c.read32.ensures held m (omega arith) ∙ inv.3,
-    )
-
-pub returns : goal.returns
-returns c =
-    let count = c.args.count in
-    let n = c.args.n in
-    let schedule = c.args.schedule.now in
-    settled_all schedule c.loop-left.held _ c.loop-left.at c.loop-left.left c.loop-left.m count n (omega arith) (omega arith)
-    c.loop-left.invariant.3
+pub loop-i-preserved : goal.loop-i-preserved
+loop-i-preserved c = settled_next _ _ _ _ _ _ _ c.read32.ensures c.loop-i.invariant c.push.ensures

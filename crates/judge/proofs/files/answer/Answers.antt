@@ -1,19 +1,14 @@
+use Rattle.std.proofs.lemmas.Result.{err_from_is_err_and}
 use Rattle.judge.proofs.FileLaws.{barred_trace, whole_trace, trace_judged}
 use Rattle.judge.proofs.files.answer.Goals as goal
 
-pub returns-then-told-ne0 : goal.returns-then-told-ne0
-returns-then-told-ne0 c =
-    let count = c.count-told in
-    (barred_trace c.args.trace.now c.args.schedule.now count.result count.ensures c.if-told-ne0.true, tt)
+pub returns-in_err-told-clause-answer : goal.returns-in_err-told-clause-answer
+returns-in_err-told-clause-answer c =
+    let p = err_from_is_err_and c.from_residual.result c.from_residual.ensures.1 in
+    rw (p.1, p.2) (barred_trace _ _ _ c.in_err-told.ensures)
 
 pub schedule_answer-requires : goal.schedule_answer-requires
-schedule_answer-requires c =
-    let count = c.count-told in
-    whole_trace c.args.trace.now c.args.schedule.now count.result count.ensures c.if-told-ne0.false
+schedule_answer-requires c = whole_trace _ c.args.schedule.now _ c.in_ok-told.ensures
 
-pub returns : goal.returns
-returns c =
-    let count = c.count-told in (
-      trace_judged c.args.trace.now c.args.schedule.now count.result count.ensures c.if-told-ne0.false _ c.schedule_answer.ensures.0,
-      c.schedule_answer.ensures.1,
-    )
+pub returns-clause-answer : goal.returns-clause-answer
+returns-clause-answer c = trace_judged _ c.args.schedule.now _ c.in_ok-told.ensures _ c.schedule_answer.ensures.answer

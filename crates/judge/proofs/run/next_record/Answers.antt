@@ -1,129 +1,77 @@
-use native.Mathlib.Omega.{arith}
-use Rattle.judge.proofs.ManyLaws.{sound_ready}
-use Rattle.judge.proofs.RunLaws.{ev_fact, ev_turn, pf_fact, pfs_turn, end_turn, refused_turn, sizes_turn}
+use Rattle.std.proofs.Common.{arith}
+use Rattle.std.proofs.lemmas.Result.{err_from_is_err_and}
+use Rattle.judge.proofs.RunLaws.{ev_fact, ev_goes_on, ev_halts, ev_onward, pf_fact, pf_halts, pf_goes_on, pf_onward, end_answer, refused_answer, no_sizes}
 use Rattle.judge.proofs.run.next_record.Goals as goal
 
-pub overflow_mul-at : goal.overflow_mul-at
-overflow_mul-at c =
-    omega arith
-
-pub overflow_add-at : goal.overflow_add-at
-overflow_add-at c =
-    omega arith
+pub returns-in_err-t-clause-answer : goal.returns-in_err-t-clause-answer
+returns-in_err-t-clause-answer c =
+    let p = err_from_is_err_and c.from_residual.result c.from_residual.ensures.1 in
+    rw (p.1, p.2) (refused_answer _ _ _ c.requires _ c.in_err-t.ensures)
 
 pub bundle-requires : goal.bundle-requires
 bundle-requires c =
-    let held = c.args.held.now in
-    let k = c.args.k in
-    let place = c.args.place in
-    let requests = c.args.requests in
-    let schedule = c.args.schedule.now in
-    let trace = c.args.trace.now in
-    let pre = c.requires in
-    let schedule-within = c.schedule_within in
-    let f = ev_fact k _ requests trace schedule held place pre.0 schedule-within.result schedule-within.ensures c.in-Bundle.t c.in-Bundle.n
-    c.in-Bundle.from c.in-Bundle.next c.in-Bundle.is in
-    (pre.0, omega arith, omega arith, omega arith, omega arith)
+    let w = c.in_ok-t.ensures in
+    let e = ev_fact _ _ _ c.requires c.in-Bundle.t c.in-Bundle.n c.in-Bundle.from c.in-Bundle.next (rw c.in-Bundle.is at w) in
+    let pages = e.pages in
+    let behind = e.behind in
+    let inside = e.inside in
+    (c.requires, omega arith, omega arith, omega arith)
 
-pub fetch-step-requires : goal.fetch-step-requires
-fetch-step-requires c =
-    let held = c.args.held.now in
-    let k = c.args.k in
-    let place = c.args.place in
-    let requests = c.args.requests in
-    let schedule = c.args.schedule.now in
-    let trace = c.args.trace.now in
-    let pre = c.requires in
-    let schedule-within = c.schedule_within in
-    let f = pf_fact k _ requests trace schedule held place pre.0 schedule-within.result schedule-within.ensures c.in-Fetch.t c.in-Fetch.page
-    c.in-Fetch.next c.in-Fetch.is in
-    let i = f.inside in (pre.0, omega arith, i, f.page_is)
+pub returns-in_err-behind-in-Bundle-clause-answer : goal.returns-in_err-behind-in-Bundle-clause-answer
+returns-in_err-behind-in-Bundle-clause-answer c =
+    let w = c.in_ok-t.ensures in
+    let p = err_from_is_err_and c.from_residual-in_err-behind-in-Bundle.result c.from_residual-in_err-behind-in-Bundle.ensures.1 in
+    rw (p.1, p.2)
+    (ev_halts _ _ _ c.requires c.in-Bundle.t c.in-Bundle.n c.in-Bundle.from c.in-Bundle.next (rw c.in-Bundle.is at w) c.bundle.new.held _
+    c.in_err-behind-in-Bundle.ensures.step)
 
-pub after-requires : goal.after-requires
-after-requires c =
-    let k = c.args.k in
-    let requests = c.args.requests in
-    let schedule = c.args.schedule.now in
-    let trace = c.args.trace.now in
-    let fetch = c.fetch-step in
-    sound_ready k requests _ trace schedule fetch.new.held fetch.result fetch.ensures.1 (omega arith)
+pub fetch-requires : goal.fetch-requires
+fetch-requires c =
+    let w = c.in_ok-t.ensures in
+    let e = pf_fact _ _ _ c.requires c.in-Fetch.t c.in-Fetch.page c.in-Fetch.next (rw c.in-Fetch.is at w) in
+    (c.requires, e.inside, e.page_is)
 
-pub finish-requires : goal.finish-requires
-finish-requires c =
-    let pre = c.requires in
-    (pre.0, omega arith)
+pub returns-in_err-fetched-in-Fetch-clause-answer : goal.returns-in_err-fetched-in-Fetch-clause-answer
+returns-in_err-fetched-in-Fetch-clause-answer c =
+    let w = c.in_ok-t.ensures in
+    let p = err_from_is_err_and c.from_residual-in_err-fetched-in-Fetch.result c.from_residual-in_err-fetched-in-Fetch.ensures.1 in
+    rw (p.1, p.2)
+    (pf_halts _ _ _ c.requires c.in-Fetch.t c.in-Fetch.page c.in-Fetch.next (rw c.in-Fetch.is at w) c.fetch.new.held _ c.in_err-fetched-in-Fetch.ensures.step)
 
-pub returns-in-Bundle : goal.returns-in-Bundle
-returns-in-Bundle c =
-    let a = c.args.a in
-    let held = c.args.held.now in
-    let k = c.args.k in
-    let place = c.args.place in
-    let requests = c.args.requests in
-    let schedule = c.args.schedule.now in
-    let trace = c.args.trace.now in
-    let pre = c.requires in
-    let schedule-within = c.schedule_within in
-    let bundle = c.bundle in
-    rw c.turned.ensures (ev_turn k a requests trace schedule held place pre.0 schedule-within.result schedule-within.ensures c.in-Bundle.t
-    c.in-Bundle.n c.in-Bundle.from c.in-Bundle.next c.in-Bundle.is bundle.result bundle.new.held bundle.ensures.0
-    bundle.ensures.1)
+pub returns-in_err-behind-in-Fetch-clause-answer : goal.returns-in_err-behind-in-Fetch-clause-answer
+returns-in_err-behind-in-Fetch-clause-answer c =
+    let w = c.in_ok-t.ensures in
+    let p = err_from_is_err_and c.from_residual-in_err-behind-in-Fetch.result c.from_residual-in_err-behind-in-Fetch.ensures.1 in
+    rw (p.1, p.2)
+    (pf_goes_on _ _ _ c.requires c.in-Fetch.t c.in-Fetch.page c.in-Fetch.next (rw c.in-Fetch.is at w) c.fetch.new.held _
+    c.in_ok-fetched-in-Fetch.ensures.sound _ c.in_ok-fetched-in-Fetch.ensures.step c.in_err-behind-in-Fetch.ensures)
 
-pub returns-in-Fetch : goal.returns-in-Fetch
-returns-in-Fetch c =
-    let a = c.args.a in
-    let held = c.args.held.now in
-    let k = c.args.k in
-    let place = c.args.place in
-    let requests = c.args.requests in
-    let schedule = c.args.schedule.now in
-    let trace = c.args.trace.now in
-    let pre = c.requires in
-    let schedule-within = c.schedule_within in
-    let fetch = c.fetch-step in
-    let after = c.after in
-    rw c.turned-in-Fetch.ensures (pfs_turn k a requests trace schedule held place pre.0 schedule-within.result schedule-within.ensures c.in-Fetch.t
-    c.in-Fetch.page c.in-Fetch.next c.in-Fetch.is fetch.result after.result fetch.new.held fetch.ensures.0 fetch.ensures.1
-    after.ensures)
+pub returns-in_ok-behind-in-Bundle-clause-answer : goal.returns-in_ok-behind-in-Bundle-clause-answer
+returns-in_ok-behind-in-Bundle-clause-answer c =
+    let w = c.in_ok-t.ensures in
+    ev_goes_on _ _ _ c.requires c.in-Bundle.t c.in-Bundle.n c.in-Bundle.from c.in-Bundle.next (rw c.in-Bundle.is at w) c.bundle.new.held _
+    c.in_ok-behind-in-Bundle.ensures.step c.in_ok-behind-in-Bundle.ensures.sound
 
-pub returns-in-End : goal.returns-in-End
-returns-in-End c =
-    let a = c.args.a in
-    let held = c.args.held.now in
-    let k = c.args.k in
-    let place = c.args.place in
-    let requests = c.args.requests in
-    let schedule = c.args.schedule.now in
-    let trace = c.args.trace.now in
-    let pre = c.requires in
-    let schedule-within = c.schedule_within in
-    let finish = c.finish in (
-      end_turn k a requests trace schedule held place pre.0 schedule-within.result schedule-within.ensures _ c.in-End.is finish.ensures.0,
-      finish.ensures.1,
-    )
+pub returns-in_ok-behind-in-Bundle-clause-sound : goal.returns-in_ok-behind-in-Bundle-clause-sound
+returns-in_ok-behind-in-Bundle-clause-sound c =
+    let w = c.in_ok-t.ensures in
+    ev_onward _ _ _ c.requires c.in-Bundle.t c.in-Bundle.n c.in-Bundle.from c.in-Bundle.next (rw c.in-Bundle.is at w) c.bundle.new.held _
+    c.in_ok-behind-in-Bundle.ensures.sound
 
-pub returns-in-Refused : goal.returns-in-Refused
-returns-in-Refused c =
-    let a = c.args.a in
-    let held = c.args.held.now in
-    let k = c.args.k in
-    let place = c.args.place in
-    let requests = c.args.requests in
-    let schedule = c.args.schedule.now in
-    let trace = c.args.trace.now in
-    let pre = c.requires in
-    let schedule-within = c.schedule_within in
-    (refused_turn k a requests trace schedule held place pre.0 schedule-within.result schedule-within.ensures c.in-Refused.number c.in-Refused.is, tt)
+pub returns-in_ok-behind-in-Fetch-clause-answer : goal.returns-in_ok-behind-in-Fetch-clause-answer
+returns-in_ok-behind-in-Fetch-clause-answer c =
+    let w = c.in_ok-t.ensures in
+    pf_goes_on _ _ _ c.requires c.in-Fetch.t c.in-Fetch.page c.in-Fetch.next (rw c.in-Fetch.is at w) c.fetch.new.held _
+    c.in_ok-fetched-in-Fetch.ensures.sound _ c.in_ok-fetched-in-Fetch.ensures.step c.in_ok-behind-in-Fetch.ensures
 
-pub returns-in-Sizes : goal.returns-in-Sizes
-returns-in-Sizes c =
-    let a = c.args.a in
-    let held = c.args.held.now in
-    let k = c.args.k in
-    let place = c.args.place in
-    let requests = c.args.requests in
-    let schedule = c.args.schedule.now in
-    let trace = c.args.trace.now in
-    let pre = c.requires in
-    let schedule-within = c.schedule_within in
-    absurd (sizes_turn k a requests trace schedule held place pre.0 schedule-within.result schedule-within.ensures _ _ _ c.in-Sizes.is)
+pub returns-in_ok-behind-in-Fetch-clause-sound : goal.returns-in_ok-behind-in-Fetch-clause-sound
+returns-in_ok-behind-in-Fetch-clause-sound c =
+    let w = c.in_ok-t.ensures in
+    pf_onward _ _ _ c.requires c.in-Fetch.t c.in-Fetch.page c.in-Fetch.next (rw c.in-Fetch.is at w) c.fetch.new.held _
+    c.in_ok-fetched-in-Fetch.ensures.sound _ c.in_ok-behind-in-Fetch.ensures.more
+
+pub returns-in-End-clause-answer : goal.returns-in-End-clause-answer
+returns-in-End-clause-answer c = let w = c.in_ok-t.ensures in end_answer _ _ _ c.requires (rw c.in-End.is at w)
+
+pub returns-in-Sizes-clause-answer : goal.returns-in-Sizes-clause-answer
+returns-in-Sizes-clause-answer c = let w = c.in_ok-t.ensures in absurd (no_sizes _ _ _ c.requires _ _ _ (rw c.in-Sizes.is at w))
