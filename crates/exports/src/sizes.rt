@@ -9,5 +9,8 @@ use paging::Sizes;
 pub extern "C" fn sizes_refusal(k: u32, a: u32) -> u32
     ensures { result ≡ sizes_refusal k a 0 }
 {
-    Sizes { k, a }.refusal()
+    match (Sizes { k, a }).check() {
+        Ok(()) => 0,
+        Err(reason) => reason.number(),
+    }
 }

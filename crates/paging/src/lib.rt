@@ -17,14 +17,14 @@ pub const COUNTER_MAX: u32 = 4294967295;
 
 // How the list of the pages held is kept, which decides what a hit does: from the least to the most recently requested page (LRU, MIN), or from
 // the oldest load to the newest (oldest load first). specs/Policy.antt says what each comes to.
-#[derive(Clone, Copy)]
+#[derive(Clone, Copy, Debug, PartialEq, Eq)]
 pub enum Keeping {
     ByRequest,
     ByLoad,
 }
 
 // The buffer's size k and the bundle's size a, as a call is handed them: any two numbers.
-#[derive(Clone, Copy)]
+#[derive(Clone, Copy, Debug, PartialEq, Eq)]
 pub struct Sizes {
     pub k: u32,
     pub a: u32,
@@ -63,24 +63,5 @@ impl Sizes {
             return Err(Refusal::TraceTooLong);
         }
         Ok(())
-    }
-
-    // The same by number, 0 for none.
-    pub fn refusal(self) -> u32
-        ensures { result ≡ sizes_refusal self.k self.a 0 }
-    {
-        match self.check() {
-            Ok(()) => 0,
-            Err(reason) => reason.number(),
-        }
-    }
-
-    pub fn trace_refusal(self, trace: &[u32]) -> u32
-        ensures { result ≡ trace_refusal self.k self.a trace.now 0 }
-    {
-        match self.check_trace(trace) {
-            Ok(()) => 0,
-            Err(reason) => reason.number(),
-        }
     }
 }
