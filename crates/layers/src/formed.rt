@@ -49,7 +49,7 @@ fn in_order(pages: &[u32], numbers: &[u32]) -> bool
     true
 }
 
-// How many places have each number.
+// How many places have each number. A number of 32 bits is an index as it is; the library has no `From` for that.
 pub(crate) fn tally(numbers: &[u32]) -> [usize; NUMBERS]
     ensures { Tallied numbers.now result }
 {

@@ -25,7 +25,7 @@ pub(crate) fn singles_at_top(numbers: &[u32], s: u32) -> u32
     n
 }
 
-// How many pages of the set have each number.
+// How many pages of the set have each number: `tally`, of numbers that stand in no list but are looked up one by one.
 pub(crate) fn tally_set(pages: &[u32], numbers: &[u32], set: &[u32]) -> [usize; NUMBERS]
     requires { length pages.now ≡ length numbers.now }
     ensures { Tallied (map (number_in (rows_of numbers.now pages.now)) set.now) result }
