@@ -2,7 +2,7 @@
 // tells how rows are written. Their answers, in the file `stdout`, were worked out by hand.
 #![tactic(auto)]
 
-use cases_rows::row::{Call, Row};
+use cases_rows::row::{Asked, Row};
 use cases_rows::{row, show, text};
 
 // The longest list is a trace with one request too many. Where the input cannot be read, nothing is printed.
@@ -28,7 +28,7 @@ fn run(rt: &impl Print, input: &[u8], first: &mut [u32], second: &mut [u32], thi
 
 // Answers a row, with the places of each list that it has.
 fn lend(rt: &impl Print, row: Row, first: &mut [u32], second: &mut [u32], third: &mut [u32]) {
-    let Some(call) = row.call else {
+    let Some(asked) = row.asked else {
         return;
     };
     let one = text::within(row.first, first);
@@ -36,7 +36,7 @@ fn lend(rt: &impl Print, row: Row, first: &mut [u32], second: &mut [u32], third:
     let three = text::within(row.third, third);
     answer(
         rt,
-        call,
+        asked,
         &mut first[..one],
         &mut second[..two],
         &mut third[..three],
@@ -44,9 +44,14 @@ fn lend(rt: &impl Print, row: Row, first: &mut [u32], second: &mut [u32], third:
     show::end(rt);
 }
 
-fn answer(rt: &impl Print, call: Call, first: &mut [u32], second: &mut [u32], third: &mut [u32]) {
-    if cases_calls::answer(rt, call.name, call.numbers, first, second, third) {
-        return;
+fn answer(
+    rt: &impl Print,
+    asked: Asked,
+    first: &mut [u32],
+    second: &mut [u32],
+    third: &mut [u32],
+) {
+    if !cases_calls::answer(rt, asked, first, second, third) {
+        cases_files::answer(rt, asked, first, second);
     }
-    cases_files::answer(rt, call.name, call.numbers, first, second);
 }

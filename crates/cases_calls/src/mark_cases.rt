@@ -4,18 +4,16 @@ ghost use Rattle.std.specs.Prelude.{◌≤◌, ◌<◌};
 use cases_rows::row::Numbers;
 use cases_rows::{show, text};
 use layers::LayersRun;
-use mark::MarkRun;
+use mark::{MarkReply, MarkRun};
+use paging::Refusal;
+use std::fmt::Display;
 
 // The places of a list. No list has more than 8.
 fn places(all: [u32; 7], which: usize) -> usize
     requires { which < 7 }
     ensures { result ≤ 8 }
 {
-    let given = all[which];
-    if given < 8 {
-        return given as usize;
-    }
-    8
+    all[which].min(8) as usize
 }
 
 // The places of the lists before it.
@@ -23,24 +21,10 @@ fn start(all: [u32; 7], which: usize) -> usize
     requires { which < 7 }
 {
     let mut at = 0;
-    let mut i = 0;
-    while i < which {
-        at += places(all, i);
-        i += 1;
+    for before in 0..which {
+        at += places(all, before);
     }
     at
-}
-
-// The same numbers in the first places of another list.
-fn filled(from: &[u32], to: &mut [u32]) {
-    let mut i = 0;
-    while i < to.len() {
-        if i == from.len() {
-            return;
-        }
-        to[i] = from[i];
-        i += 1;
-    }
 }
 
 // A list of the row, with what stands behind it where it has fewer places than 8.
@@ -49,72 +33,29 @@ fn part(all: [u32; 7], which: usize, lists: &[u32]) -> [u32; 8]
 {
     let at = text::within(start(all, which), lists);
     let mut to = [0u32; 8];
-    filled(&lists[at..], &mut to);
+    lists::moves::copy(&lists[at..], &mut to);
     to
 }
 
-fn wide(n: u32) -> u64 {
-    n as u64
-}
-
-// The same numbers in more bits.
-fn widened(from: &[u32], to: &mut [u64]) {
-    let mut i = 0;
-    while i < to.len() {
-        if i == from.len() {
-            return;
-        }
-        to[i] = wide(from[i]);
-        i += 1;
-    }
-}
-
-fn part64(all: [u32; 7], which: usize, lists: &[u32]) -> [u64; 8]
-    requires { which < 7 }
-{
-    let narrow = part(all, which, lists);
-    let mut to = [0u64; 8];
-    widened(&narrow, &mut to);
-    to
+// The same in more bits.
+fn wide(narrow: [u32; 8]) -> [u64; 8] {
+    narrow.map(|n| u64::from(n))
 }
 
 // A request: the places of the seven lists, the count and the page; the record; the lists. The answer is the record, the layers' record, the count and the
 // answer, then the seven lists as they now are.
 pub(crate) fn request(rt: &impl Print, n: Numbers, record: &[u32], lists: &[u32]) {
-    let all = [n.0, n.1, n.2, n.3, n.4, n.5, n.6];
-    serve(
-        rt,
-        all,
-        run(record),
-        n.7,
-        part(all, 0, lists),
-        part(all, 1, lists),
-        part64(all, 2, lists),
-        part(all, 3, lists),
-        part(all, 4, lists),
-        part(all, 5, lists),
-        part(all, 6, lists),
-        n.8,
-    );
-}
-
-// Makes the request, and lends of each list the places that it has.
-fn serve(
-    rt: &impl Print,
-    all: [u32; 7],
-    run: MarkRun,
-    count: u32,
-    mut cache: [u32; 8],
-    mut marks: [u32; 8],
-    mut priorities: [u64; 8],
-    mut evicted: [u32; 8],
-    mut pages: [u32; 8],
-    mut numbers: [u32; 8],
-    mut times: [u32; 8],
-    page: u32,
-) {
+    let [c, m, r, e, p, l, t, count, page] = n;
+    let all = [c, m, r, e, p, l, t];
+    let mut cache = part(all, 0, lists);
+    let mut marks = part(all, 1, lists);
+    let mut priorities = wide(part(all, 2, lists));
+    let mut evicted = part(all, 3, lists);
+    let mut pages = part(all, 4, lists);
+    let mut numbers = part(all, 5, lists);
+    let mut times = part(all, 6, lists);
     let reply = mark::request(
-        run,
+        run(record),
         count,
         &mut cache[..places(all, 0)],
         &mut marks[..places(all, 1)],
@@ -126,102 +67,72 @@ fn serve(
         page,
     );
     told(rt, reply);
-    first(rt, cache, places(all, 0));
-    first(rt, marks, places(all, 1));
-    first64(rt, priorities, places(all, 2));
-    first(rt, evicted, places(all, 3));
-    first(rt, pages, places(all, 4));
-    first(rt, numbers, places(all, 5));
-    first(rt, times, places(all, 6));
+    behind(rt, &cache[..places(all, 0)]);
+    behind(rt, &marks[..places(all, 1)]);
+    behind(rt, &priorities[..places(all, 2)]);
+    behind(rt, &evicted[..places(all, 3)]);
+    behind(rt, &pages[..places(all, 4)]);
+    behind(rt, &numbers[..places(all, 5)]);
+    behind(rt, &times[..places(all, 6)]);
 }
 
-// A whole trace: k, a and the places of the three lists of the layer table; the trace; these lists. The answer is bundles and loads, then the three lists.
+// A whole trace: k, a and the places of the three lists of the layer table; the trace; these lists. The answer is bundles and loads, 0 where
+// it is refused, then the three lists.
 pub(crate) fn over_trace(rt: &impl Print, n: Numbers, trace: &[u32], lists: &[u32]) {
-    let all = [n.2, n.3, n.4, 0, 0, 0, 0];
-    serve_all(
-        rt,
-        all,
-        n.0,
-        n.1,
-        trace,
-        part(all, 0, lists),
-        part(all, 1, lists),
-        part(all, 2, lists),
-    );
-}
-
-fn serve_all(
-    rt: &impl Print,
-    all: [u32; 7],
-    k: u32,
-    a: u32,
-    trace: &[u32],
-    mut pages: [u32; 8],
-    mut numbers: [u32; 8],
-    mut times: [u32; 8],
-) {
-    let r = mark::over_trace(
-        k,
-        a,
+    let all = [n[2], n[3], n[4], 0, 0, 0, 0];
+    let mut pages = part(all, 0, lists);
+    let mut numbers = part(all, 1, lists);
+    let mut times = part(all, 2, lists);
+    let totals = mark::over_trace(
+        n[0],
+        n[1],
         trace,
         &mut pages[..places(all, 0)],
         &mut numbers[..places(all, 1)],
         &mut times[..places(all, 2)],
     );
-    refusal(rt, r.refusal);
-    show::list(rt, &[r.bundles, r.loads]);
-    first(rt, pages, places(all, 0));
-    first(rt, numbers, places(all, 1));
-    first(rt, times, places(all, 2));
+    let figures = match totals {
+        Ok(r) => [r.bundles, r.loads],
+        Err(reason) => {
+            refused(rt, reason);
+            [0, 0]
+        }
+    };
+    show::list(rt, &figures);
+    behind(rt, &pages[..places(all, 0)]);
+    behind(rt, &numbers[..places(all, 1)]);
+    behind(rt, &times[..places(all, 2)]);
 }
 
-// The first places of a list, behind another list.
-fn first(rt: &impl Print, list: [u32; 8], n: usize)
-    requires { n ≤ 8 }
-{
-    behind(rt, &list[..n]);
+// A request's answer but for its lists. Of a refused one the record is that of no sizes, and the count and the answer are 0.
+fn told(rt: &impl Print, reply: Result<MarkReply, Refusal>) {
+    let (run, count, answer) = match reply {
+        Ok(served) => (served.run, served.count, served.outcome.number()),
+        Err(reason) => {
+            refused(rt, reason);
+            (MarkRun::empty(0, 0), 0, 0)
+        }
+    };
+    shown(rt, run);
+    behind(rt, &[count, answer]);
 }
 
-fn first64(rt: &impl Print, list: [u64; 8], n: usize)
-    requires { n ≤ 8 }
-{
-    behind64(rt, &list[..n]);
-}
-
-// A request's answer but for its lists.
-fn told(rt: &impl Print, reply: mark::MarkReply) {
-    refusal(rt, reply.refusal);
-    shown(rt, reply.run);
-    behind(rt, &[reply.count, reply.answer]);
-}
-
-// A refusal's number; nothing for 0.
-fn refusal(rt: &impl Print, number: u32) {
-    if number != 0 {
-        show::refused(rt, number);
-        show::text(rt, b";");
-    }
+// A refusal, in front of a list.
+fn refused(rt: &impl Print, reason: Refusal) {
+    show::figure(rt, reason);
+    show::text(rt, b";");
 }
 
 // A list behind another.
-fn behind(rt: &impl Print, list: &[u32]) {
+fn behind<T: Display + Copy>(rt: &impl Print, list: &[T]) {
     show::text(rt, b";");
     show::list(rt, list);
-}
-
-fn behind64(rt: &impl Print, list: &[u64]) {
-    show::text(rt, b";");
-    let mut i = 0;
-    while i < list.len() {
-        show::length(rt, list[i] as usize);
-        i += 1;
-    }
 }
 
 // The record: k, a, requests, loads, evictions, t; then the layers' record: k, a, requests, evictions, s, and the counts of the three rules.
 fn run(record: &[u32]) -> MarkRun {
     let mut n = [0u32; 14];
-    filled(record, &mut n);
+    lists::moves::copy(record, &mut n);
     mark_run(&n)
 }
 

@@ -6,18 +6,24 @@ use layers::LayersRun;
 use queue::Run;
 
 pub(crate) fn min(rt: &impl Print, n: Numbers, trace: &[u32]) {
-    let r = min::count(n.0, n.1, trace);
-    show::answer(rt, r.refusal, &[r.bundles, r.loads]);
+    show::answer(
+        rt,
+        min::count(n[0], n[1], trace).map(|r| [r.bundles, r.loads]),
+    );
 }
 
 pub(crate) fn lru(rt: &impl Print, n: Numbers, trace: &[u32]) {
-    let r = least_recent::over_trace(n.0, n.1, trace);
-    show::answer(rt, r.refusal, &[r.bundles, r.loads]);
+    show::answer(
+        rt,
+        least_recent::over_trace(n[0], n[1], trace).map(|r| [r.bundles, r.loads]),
+    );
 }
 
 pub(crate) fn fifo(rt: &impl Print, n: Numbers, trace: &[u32]) {
-    let r = fifo::over_trace(n.0, n.1, trace);
-    show::answer(rt, r.refusal, &[r.bundles, r.loads]);
+    show::answer(
+        rt,
+        fifo::over_trace(n[0], n[1], trace).map(|r| [r.bundles, r.loads]),
+    );
 }
 
 pub(crate) fn layers(
@@ -27,11 +33,11 @@ pub(crate) fn layers(
     pages: &mut [u32],
     numbers: &mut [u32],
 ) {
-    let r = layers::over_trace(n.0, n.1, trace, pages, numbers);
-    show::answer(rt, r.refusal, &[r.bundles, r.s, r.revealed]);
+    let totals = layers::over_trace(n[0], n[1], trace, pages, numbers);
+    show::answer(rt, totals.map(|r| [r.bundles, r.s, r.revealed]));
 }
 
-// LRU's answers to one request after the other, from the empty start.
+// LRU's answers to one request after the other, from the empty start. Behind a refused one the record is that of no sizes, so that each is refused.
 pub(crate) fn steps(
     rt: &impl Print,
     n: Numbers,
@@ -39,19 +45,20 @@ pub(crate) fn steps(
     cache: &mut [u32],
     evicted: &mut [u32],
 ) {
-    let mut run = Run::empty(n.0, n.1);
+    let mut run = Run::empty(n[0], n[1]);
     let mut count = 0;
-    let mut i = 0;
-    while i < trace.len() {
-        let reply = least_recent::request(run, count, cache, evicted, trace[i]);
+    for page in trace {
+        let reply = least_recent::request(run, count, cache, evicted, *page);
         requests::answered(rt, reply);
-        run = reply.run;
-        count = reply.count;
-        i += 1;
+        (run, count) = match reply {
+            Ok(served) => (served.run, served.count),
+            Err(_) => (Run::empty(0, 0), 0),
+        };
     }
 }
 
-// The layers' answers to one request after the other, from the empty record on; then the record's counts of the three rules.
+// The layers' answers to one request after the other, from the empty record on; then the record's counts of the three rules. Behind a refused one the
+// record is that of no sizes, so that each is refused.
 pub(crate) fn rules(
     rt: &impl Print,
     n: Numbers,
@@ -59,13 +66,14 @@ pub(crate) fn rules(
     pages: &mut [u32],
     numbers: &mut [u32],
 ) {
-    let mut run = LayersRun::empty(n.0, n.1);
-    let mut i = 0;
-    while i < trace.len() {
-        let reply = layers::request(run, pages, numbers, trace[i]);
-        show::answer(rt, reply.refusal, &[reply.answer; 1]);
-        run = reply.run;
-        i += 1;
+    let mut run = LayersRun::empty(n[0], n[1]);
+    for page in trace {
+        let reply = layers::request(run, pages, numbers, *page);
+        show::answer(rt, reply.map(|served| [served.rule.number()]));
+        run = match reply {
+            Ok(served) => served.run,
+            Err(_) => LayersRun::empty(0, 0),
+        };
     }
     show::list(rt, &[run.appends, run.joins, run.lifts]);
 }

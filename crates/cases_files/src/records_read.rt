@@ -40,7 +40,7 @@ pub(crate) fn count(rt: &impl Print, file: &[u8], most: u32) {
         Ok(told) => {
             show::figure(rt, told.k);
             show::figure(rt, told.a);
-            show::length(rt, told.requests);
+            show::figure(rt, told.requests);
         }
         Err(reason) => show::figure(rt, reason),
     }
@@ -56,13 +56,13 @@ fn fields(rt: &impl Print, mark: &[u8], one: u32, two: u32, next: usize) {
 fn bundle(rt: &impl Print, t: u32, n: usize, from: usize, next: usize) {
     show::text(rt, b" EV");
     show::figure(rt, t);
-    show::length(rt, n);
+    show::figure(rt, n);
     show::text(rt, b", pages from");
-    show::length(rt, from);
+    show::figure(rt, from);
     behind(rt, next);
 }
 
 fn behind(rt: &impl Print, next: usize) {
     show::text(rt, b", next");
-    show::length(rt, next);
+    show::figure(rt, next);
 }

@@ -1,31 +1,21 @@
 // A row read into lent lists. A list that the row does not give stays as the rows before left it.
+use crate::call::Call;
 use crate::{show, text};
 
 // The numbers of a call, in the row's order.
-#[derive(Clone, Copy)]
-pub struct Numbers(
-    pub u32,
-    pub u32,
-    pub u32,
-    pub u32,
-    pub u32,
-    pub u32,
-    pub u32,
-    pub u32,
-    pub u32,
-);
+pub type Numbers = [u32; 9];
 
-// A call: the first two letters of its name in a 16-bit number, the first in the lower byte; and its numbers.
+// A call with its numbers.
 #[derive(Clone, Copy)]
-pub struct Call {
-    pub name: u16,
+pub struct Asked {
+    pub call: Call,
     pub numbers: Numbers,
 }
 
-// The call, none for a remark, and how many places each list has.
+// What is asked, nothing in a remark, and how many places each list has.
 #[derive(Clone, Copy)]
 pub struct Row {
-    pub call: Option<Call>,
+    pub asked: Option<Asked>,
     pub first: usize,
     pub second: usize,
     pub third: usize,
@@ -35,7 +25,7 @@ impl Row {
     // No row, and lists with no places.
     pub fn empty() -> Row {
         Row {
-            call: None,
+            asked: None,
             first: 0,
             second: 0,
             third: 0,
@@ -56,7 +46,7 @@ pub fn read(
     let (label, behind) = line.split_at(colon);
     if behind.is_empty() {
         return Row {
-            call: None,
+            asked: None,
             ..before
         };
     }
@@ -73,15 +63,15 @@ fn given(
     second: &mut [u32],
     third: &mut [u32],
 ) -> Row {
-    let mut list = [0u32; 9];
-    let numbers = text::list(text, 0, &mut list);
-    let one = text::list(numbers.behind, before.first, first);
+    let mut numbers = [0u32; 9];
+    let list = text::list(text, 0, &mut numbers);
+    let one = text::list(list.behind, before.first, first);
     let two = text::list(one.behind, before.second, second);
     let three = text::list(two.behind, before.third, third);
     Row {
-        call: name(text).map(|name| Call {
-            name,
-            numbers: in_order(list),
+        asked: letters(text).map(|letters| Asked {
+            call: Call::from(letters),
+            numbers,
         }),
         first: one.count,
         second: two.count,
@@ -89,18 +79,10 @@ fn given(
     }
 }
 
-fn in_order(list: [u32; 9]) -> Numbers {
-    let [a, b, c, d, e, f, g, h, i] = list;
-    Numbers(a, b, c, d, e, f, g, h, i)
-}
-
-// The first two letters of the call, behind the colon and a space. There is none where they are missing, or both the byte 0.
-fn name(text: &[u8]) -> Option<u16> {
-    if text.len() < 4 {
+// The first two letters of the call, behind the colon and a space. There are none where they are missing, or both the byte 0.
+fn letters(text: &[u8]) -> Option<[u8; 2]> {
+    if text.len() < 4 || text[2] == 0 && text[3] == 0 {
         return None;
     }
-    match u16::from_le_bytes([text[2], text[3]]) {
-        0 => None,
-        name => Some(name),
-    }
+    Some([text[2], text[3]])
 }
