@@ -1,5 +1,4 @@
 -- Laws of the refusals' numbers.
-use Prim.Native.Nat.{ℕ}
 use native.Mathlib.Omega.{arith}
 use mathlib.Core.Path.{◌≡◌}
 use Rattle.paging.specs.Numbers.{number_of}

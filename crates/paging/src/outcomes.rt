@@ -1,7 +1,8 @@
 // What a request did. Document 01 answers it by number.
 ghost use Rattle.std.specs.Prelude.{◌≡◌};
 ghost use Rattle.paging.specs.Numbers.{kind_of_outcome};
-ghost use Rattle.paging.specs.Policy.{kind_number};
+ghost use Rattle.lists.specs.Pages.{bit};
+ghost use Rattle.paging.specs.Policy.{kind_number, is_bundled, is_load};
 
 #[derive(Clone, Copy, Debug, PartialEq, Eq)]
 pub enum Outcome {
@@ -22,5 +23,19 @@ impl Outcome {
             Outcome::Load => 1,
             Outcome::LoadAfterBundle => 2,
         }
+    }
+
+    // The loads that it counts: one, but for a hit.
+    pub fn loads(self) -> u32
+        ensures { result ≡ bit (is_load (kind_of_outcome self)) }
+    {
+        u32::from(self != Outcome::Hit)
+    }
+
+    // The bundles that it counts.
+    pub fn bundles(self) -> u32
+        ensures { result ≡ bit (is_bundled (kind_of_outcome self)) }
+    {
+        u32::from(self == Outcome::LoadAfterBundle)
     }
 }
