@@ -171,3 +171,11 @@ best_same k a {trace} b = ap (count is_bundled) (kinds_same k a b (kept_none tra
 
 pub loads_same : (k a : ℕ) {trace : List ℕ} → Pages trace → count is_load (kinds_of k a trace []) ≡ min_loads k a trace
 loads_same k a {trace} b = ap (count is_load) (kinds_same k a b (kept_none trace))
+
+-- what a pass over just this trace with these sizes counts
+module _ {k a k' a' : ℕ} {trace trace' : List ℕ} (over : (k' ≡ k) × ((a' ≡ a) × (trace' ≡ trace))) (pages : Pages trace) (n : ℕ) where
+  pub best_counted : n ≡ count is_bundled (kinds_of k' a' trace' []) → n ≡ best_count k a trace
+  best_counted e = rw (e, over.0, over.1.0, over.1.1) (best_same k a pages)
+
+  pub loads_counted : n ≡ count is_load (kinds_of k' a' trace' []) → n ≡ min_loads k a trace
+  loads_counted e = rw (e, over.0, over.1.0, over.1.1) (loads_same k a pages)

@@ -75,4 +75,4 @@ pub schedule_passes : (k a : ℕ) (trace out out' : List ℕ) (r : ScheduledAnsw
 schedule_passes k a trace out out' r z p = rw (trace_pass k a trace (bytes_refusal k a trace out) (sym z)) p
 
 pub ruleset count_rules =
-    (accepted, counts_refused, counts_served)
+    (accepted, counts_refused)

@@ -5,6 +5,7 @@ ghost use Rattle.std.specs.Prelude.{◌≡◌};
 ghost use Rattle.min.specs.Answers.{counts_answer, scheduled_answer};
 ghost use Rattle.min.specs.Calls.{counts_of, scheduled_of, bytes_of};
 
+use crate::run::Pass;
 use paging::{Refusal, Sizes};
 
 mod run;
@@ -32,8 +33,8 @@ pub fn count(k: u32, a: u32, trace: &[u32]) -> Result<Counts, Refusal>
 {
     Sizes { k, a }.check_trace(trace)?;
     let mut lefts = [0u32; Sizes::TRACE_MAX];
-    let counts = run::counted(k, a, trace, &mut lefts);
-    Ok(counts)
+    let pass = Pass::over(k, a, trace, &mut lefts);
+    Ok(pass.counts())
 }
 
 // The same, and the schedule that farthest next use makes of the trace in the first of the lent bytes: KA, then an EV for each bundle.

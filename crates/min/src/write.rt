@@ -7,9 +7,10 @@ ghost use Rattle.records.specs.Bytes.{ev_length, ev_bytes, entry_bytes, joined};
 ghost use Rattle.keys.specs.Keys.{page_of, bundle_of, bundles_of};
 ghost use Rattle.min.specs.Answers.{scheduled_answer};
 ghost use Rattle.min.specs.Calls.{bytes_refusal, scheduled_by, bytes_by};
-ghost use Rattle.min.specs.inner.Run.{PassReady, Accepted, EvRoom, BundleRoom};
+ghost use Rattle.min.specs.inner.Run.{Accepted, EvRoom, BundleRoom};
 
-use crate::{Scheduled, run};
+use crate::Scheduled;
+use crate::run::Pass;
 use keys::Held;
 use paging::{Outcome, Refusal, Sizes};
 
@@ -46,26 +47,24 @@ fn put_if_bundled(
     ensures { (result ≡ at + length (joined entry_bytes (bundle_of (kind_of_outcome outcome) a t held.now [])))
         × (out.new ≡ placed out.old at (joined entry_bytes (bundle_of (kind_of_outcome outcome) a t held.now []))) }
 {
-    match outcome {
-        Outcome::Hit | Outcome::Load => at,
-        Outcome::LoadAfterBundle => {
-            let size = put_bundle(&held.keys()[..a], t as u32, &mut out[at..]);
-            at + size
-        }
+    if outcome != Outcome::LoadAfterBundle {
+        return at;
     }
+    let size = put_bundle(&held.keys()[..a], t as u32, &mut out[at..]);
+    at + size
 }
 
 // An EV for each bundle of farthest next use over the trace, from an offset on.
-fn put_bundles(k: usize, a: usize, trace: &[u32], lefts: &[u32], out: &mut [u8], from: usize)
-    requires { PassReady k a trace.now lefts.now × (from + length (joined entry_bytes (bundles_of k a 0 trace.now [])) ≤ length out.old) }
-    ensures { out.new ≡ placed out.old from (joined entry_bytes (bundles_of k a 0 trace.now [])) }
+fn put_bundles(pass: Pass, out: &mut [u8], from: usize)
+    requires { from + length (joined entry_bytes (bundles_of pass.k pass.a 0 pass.trace.now [])) ≤ length out.old }
+    ensures { out.new ≡ placed out.old from (joined entry_bytes (bundles_of pass.entry.k pass.entry.a 0 pass.entry.trace.now [])) }
 {
     let mut held = Held::none();
     let mut at = from;
-    for t in 0..trace.len() {
-        let (outcome, next) = run::asked(&held, k, a, trace, lefts, t);
-        at = put_if_bundled(outcome, &held, a, t, out, at);
-        held.serve(a, outcome, next);
+    for t in 0..pass.trace.len() {
+        let (outcome, next) = pass.asked(&held, t);
+        at = put_if_bundled(outcome, &held, pass.a, t, out, at);
+        held.serve(pass.a, outcome, next);
     }
 }
 
@@ -80,7 +79,6 @@ fn schedule_length(a: u32, bundles: u32) -> usize
 
 // The call for sizes and a trace that are not refused, with places lent for the lefts. Whether the bytes suffice is judged before the
 // first of them is written.
-#[tactic(auto, using(crate::proofs::ReadBack::schedule_long, crate::proofs::Refused::bytes_few))]
 pub(crate) fn scheduled(
     k: u32,
     a: u32,
@@ -92,13 +90,14 @@ pub(crate) fn scheduled(
     ensures { (scheduled_answer result ≡ scheduled_by (bytes_refusal k a trace.now out.old) k a trace.now)
         × (out.new ≡ bytes_by (bytes_refusal k a trace.now out.old) k a trace.now out.old) }
 {
-    let all = run::counted(k, a, trace, lefts);
+    let pass = Pass::over(k, a, trace, lefts);
+    let all = pass.counts();
     let size = schedule_length(a, all.bundles);
     if out.len() < size {
         return Err(Refusal::TooLittleRoom);
     }
     let from = records::put::ka(out, k as u16, a as u16).unwrap();
-    put_bundles(k as usize, a as usize, trace, lefts, out, from);
+    put_bundles(pass, out, from);
     Ok(Scheduled {
         bundles: all.bundles,
         loads: all.loads,

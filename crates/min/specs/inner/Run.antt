@@ -1,7 +1,6 @@
 -- One pass over a trace: what it is handed, and where it stands.
 use Rattle.std.specs.Prelude.{ℕ, ◌+◌, ◌≤◌, ◌<◌, List, [], ◌≡◌, length, take, drop}
 use Rattle.lists.specs.Pages.{count}
-use Rattle.paging.specs.Min.{best_count, min_loads}
 use Rattle.paging.specs.Policy.{Kind, is_bundled, is_load}
 use Rattle.paging.specs.Refusals.{SizesRight, largest_k, longest_trace}
 use Rattle.wire.specs.Numbers.{placed}
@@ -31,12 +30,6 @@ pub record Counting (k a t bundles loads : ℕ) (trace keys : List ℕ) : Type 0
   pub stands : Standing k t trace keys
   pub bundled : bundles + count is_bundled (kinds_of k a (drop t trace) keys) ≡ count is_bundled (kinds_of k a trace [])
   pub loaded : loads + count is_load (kinds_of k a (drop t trace) keys) ≡ count is_load (kinds_of k a trace [])
-
--- what a whole pass answers, and the lefts that it leaves
-pub record Counted (k a : ℕ) (trace lefts : List ℕ) (bundles loads : ℕ) : Type 0 where
-  pub ready : PassReady k a trace lefts
-  pub best : bundles ≡ best_count k a trace
-  pub loaded : loads ≡ min_loads k a trace
 
 -- Writing
 
