@@ -1,6 +1,6 @@
 // One pass of farthest next use over a trace, from the empty buffer.
 ghost use Rattle.std.specs.Prelude.{[], ◌≡◌, ◌<◌, ◌+◌, length, drop, get_or};
-ghost use Rattle.lists.specs.Pages.{bit, count};
+ghost use Rattle.lists.specs.Pages.{count};
 ghost use Rattle.paging.specs.Numbers.{kind_of_outcome};
 ghost use Rattle.paging.specs.Policy.{is_bundled, is_load};
 ghost use Rattle.keys.specs.Keys.{key, kind_in, kinds_of};
@@ -61,21 +61,9 @@ impl<'a> Pass<'a> {
         for t in 0..self.trace.len() {
             let (outcome, next) = self.asked(&held, t);
             held.serve(self.a, outcome, next);
-            bundles += bundle_bit(outcome);
-            loads += load_bit(outcome);
+            bundles += outcome.bundles();
+            loads += outcome.loads();
         }
         Counts { bundles, loads }
     }
-}
-
-fn bundle_bit(outcome: Outcome) -> u32
-    ensures { result ≡ bit (is_bundled (kind_of_outcome outcome)) }
-{
-    u32::from(outcome == Outcome::LoadAfterBundle)
-}
-
-fn load_bit(outcome: Outcome) -> u32
-    ensures { result ≡ bit (is_load (kind_of_outcome outcome)) }
-{
-    u32::from(outcome != Outcome::Hit)
 }

@@ -12,7 +12,7 @@ overflow_add-bundles c =
       c.loop-t.invariant.bundled,
       count_kinds is_bundled c.args.self.k c.args.self.a c.args.self.trace.now,
       c.args.self.ready.short,
-      c.bundle_bit-bundles.ensures,
+      c.bundles-bundles.ensures,
       bit_le (is_bundled (kind_of_outcome c.asked-outcome.result.0)),
     )
 
@@ -23,7 +23,7 @@ overflow_add-loads c =
       c.loop-t.invariant.loaded,
       count_kinds is_load c.args.self.k c.args.self.a c.args.self.trace.now,
       c.args.self.ready.short,
-      c.load_bit-loads.ensures,
+      c.loads-loads.ensures,
       bit_le (is_load (kind_of_outcome c.asked-outcome.result.0)),
     )
 
@@ -31,6 +31,6 @@ pub loop-t-preserved : goal.loop-t-preserved
 loop-t-preserved c =
     let turn = c.loop-t in
     let asked = c.asked-outcome in
-    rw (c.bundle_bit-bundles.ensures, c.load_bit-loads.ensures)
+    rw (c.bundles-bundles.ensures, c.loads-loads.ensures)
     (counting_turn c.args.self.k c.args.self.a turn.t (kind_of_outcome asked.result.0) c.args.self.trace.now c.args.self.lefts.now turn.held c.args.self.ready turn.invariant.stands
     c.loop-t-test.true asked.ensures.0 asked.result.1 c.serve.new.self asked.ensures.1 c.serve.ensures turn.bundles turn.loads turn.invariant)
