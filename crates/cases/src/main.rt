@@ -44,13 +44,7 @@ fn lend(rt: &impl Print, row: Row, first: &mut [u32], second: &mut [u32], third:
     show::end(rt);
 }
 
-fn answer(
-    rt: &impl Print,
-    asked: Asked,
-    first: &mut [u32],
-    second: &mut [u32],
-    third: &mut [u32],
-) {
+fn answer(rt: &impl Print, asked: Asked, first: &mut [u32], second: &mut [u32], third: &mut [u32]) {
     if !cases_calls::answer(rt, asked, first, second, third) {
         cases_files::answer(rt, asked, first, second);
     }
