@@ -6,14 +6,6 @@ use Rattle.lists.proofs.Leaves.{byte_one}
 use Rattle.table.proofs.Serving.{kept_next, kept_end}
 use Rattle.table.proofs.kept.Goals as goal
 
-pub overflow_add-n : goal.overflow_add-n
-overflow_add-n c =
-    let args = c.args in
-    let i = c.loop-i.i in
-    let told = c.from-n.ensures in
-    let one = byte_one (not (eqb (get_or args.pages.now i 0) args.change.page) && ltb c.lost-most.result (get_or args.numbers.now i 0)) in
-    omega arith
-
 pub loop-i-preserved : goal.loop-i-preserved
 loop-i-preserved c =
     let args = c.args in

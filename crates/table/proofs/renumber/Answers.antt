@@ -1,13 +1,7 @@
 use native.Mathlib.Omega.{arith}
-use Rattle.table.proofs.Serving.{renumbering_start, turn_drops, turn_keeps, renumbering_end}
+use Rattle.table.proofs.Serving.{turn_drops, turn_keeps, renumbering_end}
 use Rattle.table.proofs.renumber.Goals as goal
 use Rattle.table.proofs.renumber.Goals.{then-number-gt0, else-number-gt0}
-
-pub loop-from-init : goal.loop-from-init
-loop-from-init c = (omega arith, omega arith, renumbering_start _ _)
-
-pub put_row-requires-then-number-gt0 : goal.put_row-requires-then-number-gt0
-put_row-requires-then-number-gt0 c = (omega arith, omega arith)
 
 pub loop-from-preserved : goal.loop-from-preserved
 loop-from-preserved c =

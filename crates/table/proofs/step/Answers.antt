@@ -1,15 +1,7 @@
-use native.Mathlib.Omega.{arith}
 use lib.ListN.{length}
 use borrow.Author.Rules.{rules}
-use Rattle.table.proofs.Numbers.{lift_has_row}
 use Rattle.table.proofs.Serving.{step_full, step_served}
 use Rattle.table.proofs.step.Goals as goal
-
-pub change_for-change-requires : goal.change_for-change-requires
-change_for-change-requires c =
-    let args = c.args in
-    let number_in = c.number_in-i in
-    (omega arith, lift_has_row args.k number_in.result args.s _ c.rule_for-rule.ensures)
 
 pub returns-then-n-pages : goal.returns-then-n-pages
 returns-then-n-pages c =
