@@ -7,7 +7,9 @@ use Rattle.layers.proofs.Refusing.{number_above}
 use Rattle.mark.proofs.Blank.{early_trace, early_numbers, early_times, early_used, early_none}
 use Rattle.mark.proofs.trace.check.Goals as goal
 use Rattle.mark.proofs.trace.check.Goals.{then-numbers-pages-via-then-numbers-pages, then-numbers-pages-via-else-numbers-pages+then-times-pages}
-use Rattle.mark.proofs.trace.check.Goals.{then-not-all_zero-via-then-not-all_zero, then-not-all_zero-via-else-not-all_zero+then-not-all_zero-2, then-not-all_zero-via-else-not-all_zero+else-not-all_zero-2+then-not-all_zero-3}
+use Rattle.mark.proofs.trace.check.Goals.{then-not-all_zero-via-then-not-all_zero}
+use Rattle.mark.proofs.trace.check.Goals.{then-not-all_zero-via-else-not-all_zero+then-not-all_zero-2}
+use Rattle.mark.proofs.trace.check.Goals.{then-not-all_zero-via-else-not-all_zero+else-not-all_zero-2+then-not-all_zero-3}
 
 pub returns-in_err-check_trace : goal.returns-in_err-check_trace
 returns-in_err-check_trace c =
