@@ -129,7 +129,7 @@ pub fn pages(s: &[u8], from: usize, n: usize) -> &[u8]
     &s[from..from + 4 * n]
 }
 
-// Both readers tell the places of a file apart alike.
+// Where an offset of a file lies, which both readers ask first: past the end is 9, and at the start a KA is expected.
 #[tactic(auto, using(crate::proofs::Reading::place_rules))]
 fn place_of(s: &[u8], at: usize) -> Result<Place, Refusal>
     ensures answer { (x : Answer) → place_answer result x ≡ read_at s.now at x }

@@ -1,4 +1,5 @@
 // The writers (document 01, "Files"): each record into lent bytes from an offset on; each answers the offset behind it. Own refusals first, then 9, then 8.
+// What they share is three lines: a function for them all would take the call of `put` as a closure, and say of it what it leaves behind.
 ghost use Rattle.std.specs.Prelude.{◌-◌, ◌≡◌, ltb};
 ghost use Rattle.paging.specs.Numbers.{refusal_of};
 ghost use Rattle.paging.specs.Refusals.{refuse};

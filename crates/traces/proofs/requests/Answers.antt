@@ -20,8 +20,8 @@ loop-times-smaller c =
 pub loop-times-preserved : goal.loop-times-preserved
 loop-times-preserved c =
     let more = c.from-more.ensures in
-    rw more
-    (counting_next _ _ _ _ c.loop-times.invariant _ c.trace.ensures _ _ _ (c.in_ok-times.was ∙ ap Ok c.in-Request.is) (rw more at c.if-more-most.false))
+    let next = counting_next _ _ _ _ c.loop-times.invariant _ c.trace.ensures _ _ _ (c.in_ok-times.was ∙ ap Ok c.in-Request.is) (rw more at c.if-more-most.false) in
+    rw (← more) at next
 
 pub returns : goal.returns
 returns c = counted_else _ _ _ _ c.loop-times.invariant _ c.trace.ensures _ c.in_ok-times.was c.in_default.not-Request
