@@ -4,8 +4,8 @@
 //   length  an EV's length
 //   write   a writer for each record, into lent bytes from an offset
 //   put     below the writers: a record at the start of the rest of the lent bytes
-// Whoever writes a file calls `write`. The other three are inner: only crates of this repository call them. `kind` refuses an unknown mark itself, and `length` an EV of more than 256 pages; whoever calls
-// `put` has judged 6, 13, 8 and 9 before.
+// Whoever writes a file calls `write`. The other three are inner: only crates of this repository call them. `kind` refuses an unknown mark itself, and
+// `length` has none for more than 256 pages; whoever calls `put` has judged 6, 13, 8 and 9 before.
 #![tactic(auto)]
 
 pub mod kind;
