@@ -19,7 +19,8 @@ use Rattle.cursor.proofs.Laws.{rest, at_a_record}
 use Rattle.traces.specs.Calls.{count_of, trace_count_answer}
 use Rattle.traces.specs.Traces.{TraceFile, trace_file}
 use Rattle.traces.specs.declared.TraceCount.{TraceCount}
-use Rattle.traces.proofs.CallLaws.{CountedWhole, count_refused_lem, count_whole, some_number}
+use Rattle.paging.proofs.Numbers.{number_above}
+use Rattle.traces.proofs.CallLaws.{CountedWhole, count_refused_lem, count_whole}
 use Rattle.judging.specs.Answer.{Answer, refused}
 use Rattle.judging.specs.Files.{behind_trace, schedule_judged, judged}
 use Rattle.judge.specs.declared.place.Files.{Files}
@@ -71,7 +72,7 @@ module _ (f : Files) (k a next : ℕ) (own : reading.sizes k a next ≡ read_sch
 pub barred_trace : (trace schedule : List ℕ) (reason : Refusal) → trace_count_answer (Err reason) ≡ count_of (trace_file longest_trace trace)
     → refused (number_of reason) ≡ judged trace schedule
 unfolding judged
-barred_trace trace schedule reason e = rw (count_refused_lem longest_trace trace (trace_count_answer (Err reason)) e (some_number reason))
+barred_trace trace schedule reason e = rw (count_refused_lem longest_trace trace (trace_count_answer (Err reason)) e (number_above reason))
 
 module _ (trace schedule : List ℕ) (told : TraceCount) (e : trace_count_answer (Ok told) ≡ count_of (trace_file longest_trace trace)) where
   counted : CountedWhole longest_trace trace (trace_count_answer (Ok told))

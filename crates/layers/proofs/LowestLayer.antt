@@ -6,9 +6,8 @@ use mathlib.Core.List.{List}
 use mathlib.Core.Logic.{◌↔◌}
 use mathlib.Core.Path.{◌≡◌, refl, sym, ap, ◌∙◌}
 use Rattle.std.specs.Prelude.{Result, Ok, Err}
-use Rattle.paging.specs.Numbers.{number_of}
+use Rattle.paging.proofs.Numbers.{reason_of, reason_back}
 use Rattle.paging.specs.declared.reasons.Refusal.{Refusal}
-use Rattle.paging.specs.declared.reasons.Refusal.TheVariants.{BufferSize, BundleSize, TraceTooLong, WrongMark, CutShort, WrongRecord, TooManyHeld, TooLittleRoom, IllFormed, TableFull, PageTwice, CounterFull, EmptyRun}
 use lib.Dec.{eqb}
 use lib.ListN.{length}
 use borrow.Author.Tests.{eq-eqb, eqb-true, ltb-true}
@@ -24,28 +23,6 @@ use Rattle.layers.specs.declared.PossibleAnswer.{PossibleAnswer}
 use Rattle.layers.specs.declared.PossibleAnswer.TheVariants.{Yes, CountDiffers, BrokenAt}
 
 -- Each verdict is that of one answer
-
--- the reason of a number
-abbrev reason_of : ℕ → Refusal
-reason_of n =
-    pick (eqb n 1) BufferSize (pick (eqb n 2) BundleSize (pick (eqb n 3) TraceTooLong (pick (eqb n 4) WrongMark (pick (eqb n 5) CutShort
-    (pick (eqb n 6) WrongRecord (pick (eqb n 7) TooManyHeld (pick (eqb n 8) TooLittleRoom (pick (eqb n 9) IllFormed (pick (eqb n 10) TableFull
-    (pick (eqb n 11) PageTwice (pick (eqb n 12) CounterFull EmptyRun)))))))))))
-
-reason_back : (reason : Refusal) → reason_of (number_of reason) ≡ reason
-reason_back BufferSize = refl
-reason_back BundleSize = refl
-reason_back TraceTooLong = refl
-reason_back WrongMark = refl
-reason_back CutShort = refl
-reason_back WrongRecord = refl
-reason_back TooManyHeld = refl
-reason_back TooLittleRoom = refl
-reason_back IllFormed = refl
-reason_back TableFull = refl
-reason_back PageTwice = refl
-reason_back CounterFull = refl
-reason_back EmptyRun = refl
 
 abbrev answer_of : Verdict → Result PossibleAnswer Refusal
 answer_of (refused_with number) = Err (reason_of number)

@@ -10,12 +10,9 @@ use lib.ListN.{length}
 use borrow.Author.Tests.{eq-eqb, ne_eqb, eqb-true, leb-true, not-false}
 use Rattle.lists.specs.Sorting.{Row}
 use Rattle.paging.specs.Layers.{top_after}
-use Rattle.paging.specs.Numbers.{number_of}
 use Rattle.paging.specs.Refusals.{sizes_refusal, SizesRight, refuse}
 use Rattle.paging.specs.Rows.{rows_of, numbers_of, pages_of, used_rows, table_of}
 use Rattle.paging.specs.Table.{rule_in}
-use Rattle.paging.specs.declared.reasons.Refusal.{Refusal}
-use Rattle.paging.specs.declared.reasons.Refusal.TheVariants.{BufferSize, BundleSize, TraceTooLong, WrongMark, CutShort, WrongRecord, TooManyHeld, TooLittleRoom, IllFormed, TableFull, PageTwice, CounterFull, EmptyRun}
 use Rattle.paging.proofs.Refusals.{zero_pass, Chain, chain_end, chain_refuse, chain_behind, chain_fall, sizes_chain, sizes_pass, sizes_fall, sizes_rest, sizes_taken}
 use Rattle.paging.proofs.Rows.{numbers_back, pages_back}
 use Rattle.table.specs.Serving.{Sound, SteppedTo, rule_of}
@@ -28,21 +25,6 @@ use Rattle.layers.specs.inner.Counting.{CountersFit}
 use Rattle.layers.proofs.WellFormed.{facts, well_table, well_counts}
 
 -- A reason has a number, and a call that answers none has a result
-
-pub number_above : (reason : Refusal) → number_of reason ≡ 0 → ⊥
-number_above BufferSize z = absurd (omega arith)
-number_above BundleSize z = absurd (omega arith)
-number_above TraceTooLong z = absurd (omega arith)
-number_above WrongMark z = absurd (omega arith)
-number_above CutShort z = absurd (omega arith)
-number_above WrongRecord z = absurd (omega arith)
-number_above TooManyHeld z = absurd (omega arith)
-number_above TooLittleRoom z = absurd (omega arith)
-number_above IllFormed z = absurd (omega arith)
-number_above TableFull z = absurd (omega arith)
-number_above PageTwice z = absurd (omega arith)
-number_above CounterFull z = absurd (omega arith)
-number_above EmptyRun z = absurd (omega arith)
 
 pub none_left : {A : Type 0} (o : Option A) → ((x : A) → o ≡ Some x → ⊥) → o ≡ None
 none_left None h = refl

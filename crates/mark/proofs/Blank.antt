@@ -25,7 +25,7 @@ use Rattle.marking.specs.Rdm.{rdm}
 use Rattle.mark.specs.Traces.{Table, table_with, all_zero, early_refusal, over_refusal, totals_of, table_over, OverTrace}
 use Rattle.mark.specs.declared.MarkTotals.{MarkTotals}
 use Rattle.mark.specs.inner.Over.{TraceReady, AllServed, ServedOver}
-use Rattle.layers.proofs.Refusing.{number_above}
+use Rattle.paging.proofs.Numbers.{number_above}
 
 -- The look
 

@@ -25,7 +25,7 @@ use Rattle.mark.specs.Formed.{record_formed, buffer_formed, times_formed, mark_w
 use Rattle.mark.specs.Lent.{Lent, rows_in}
 use Rattle.mark.specs.declared.MarkRun.{MarkRun}
 use Rattle.mark.specs.inner.Judging.{JudgedTo}
-use Rattle.layers.proofs.Refusing.{number_above}
+use Rattle.paging.proofs.Numbers.{number_above}
 use Rattle.mark.proofs.Formed.{Recorded, record_facts, record_well, Roomy, lists_facts, lists_right}
 
 -- what is known where a request is refused with none of 1, 2, 8, 9 and 12

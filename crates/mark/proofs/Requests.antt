@@ -32,7 +32,7 @@ use Rattle.mark.specs.declared.MarkRun.{MarkRun}
 use Rattle.mark.specs.declared.serving.Point.{Point}
 use Rattle.mark.specs.declared.serving.Stepped.{Stepped}
 use Rattle.mark.specs.inner.Stepping.{StepReady, point_after, SteppedBy, SteppedTo, AnswerReady, answered_by}
-use Rattle.layers.proofs.Refusing.{number_above}
+use Rattle.paging.proofs.Numbers.{number_above}
 use Rattle.mark.proofs.Refusals.{Ready, ready, passes, state_chain}
 use Rattle.mark.proofs.Tables.{first_unused, used_fit, times_low, times_blank}
 

@@ -13,6 +13,7 @@ use borrow.Author.Tests.{lt-ltb, le-ltb, eq-eqb, ne_eqb, ltb-false}
 use Rattle.lists.specs.Choice.{pick, ◌or◌}
 use Rattle.lists.proofs.Choice.{tests, or_none_l, or_none_r}
 use Rattle.paging.specs.Refusals.{refuse, sizes_refusal}
+use Rattle.paging.proofs.Numbers.{number_above}
 use Rattle.paging.proofs.Refusals.{sizes_fall}
 use Rattle.wire.specs.Numbers.{bytes32, all_bytes32, placed}
 use Rattle.wire.proofs.Numbers.{placed_join, length_placed, length_all_bytes32}
@@ -222,12 +223,9 @@ refuses b out at zero r z e = absurd (z refl)
 refuses b out at (suc n) r z e = (rw e, rw e)
 
 -- the same where the call below has told the reason
-number_some : (reason : Refusal) → number_of reason ≡ 0 → ⊥
-number_some reason e = grind arith
-
 pub room_refused : (b out : List ℕ) (at r : ℕ) (answer : Result ℕ Refusal) (reason : Refusal) → answer ≡ Err reason → number_of reason ≡ r
     → (written_answer answer ≡ wrote r b at) × (out ≡ out_after r b out at)
-room_refused b out at r answer reason e n = rw e (refuses b out at (number_of reason) r (number_some reason) (sym n))
+room_refused b out at r answer reason e n = rw e (refuses b out at (number_of reason) r (number_above reason) (sym n))
 
 -- the refusals that come before the room's: the answer is the number, and no byte changes
 module _ (b out : List ℕ) (at : ℕ) where

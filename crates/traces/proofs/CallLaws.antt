@@ -1,12 +1,9 @@
 -- The calls on a whole file: the KA first, then the requests; and a list is filled only where nothing is refused.
 use Prim.Native.Nat.{ℕ, ◌≤◌}
-use native.Mathlib.Omega.{arith}
 use mathlib.Core.List.{List, ◌++◌}
 use mathlib.Core.Path.{◌≡◌, refl, sym, ap, ◌∙◌}
 use lib.ListN.{length, drop}
 use borrow.Author.Tests.{ne_eqb}
-use Rattle.paging.specs.Numbers.{number_of}
-use Rattle.paging.specs.declared.reasons.Refusal.{Refusal}
 use Rattle.records.specs.Marks.{mark_at}
 use Rattle.reading.specs.Files.{File, requests_from}
 use Rattle.reading.specs.Reading.{refused, sizes, ka_read}
@@ -15,10 +12,6 @@ use Rattle.traces.specs.Calls.{TraceCountAnswer, count_of, pages_after}
 use Rattle.traces.specs.Traces.{TraceFile, whole, damaged, trace_file}
 use Rattle.traces.specs.inner.Counting.{CountedAnswer, counted_in}
 use Rattle.traces.proofs.Whole.{WholeTrace, file_says}
-
--- a refusal's number is not 0
-pub some_number : (reason : Refusal) → number_of reason ≡ 0 → ⊥
-some_number reason e = grind arith
 
 -- ---- counting
 

@@ -4,7 +4,8 @@ use Rattle.std.specs.Prelude.{Err, None}
 use Rattle.std.proofs.lemmas.Result.{err_from_is_err_and}
 use Rattle.paging.specs.Numbers.{number_of}
 use Rattle.layers.proofs.OverLaws.{over_early, serve_ready, over_full, s_small, over_done}
-use Rattle.layers.proofs.Refusing.{number_above, none_left}
+use Rattle.paging.proofs.Numbers.{number_above}
+use Rattle.layers.proofs.Refusing.{none_left}
 use Rattle.layers.proofs.over_trace.Goals as goal
 
 pub returns-in_err-check : goal.returns-in_err-check

@@ -6,7 +6,8 @@ use Rattle.paging.specs.Numbers.{number_of}
 use Rattle.paging.specs.Rows.{rows_of}
 use Rattle.paging.specs.Table.{number_in}
 use Rattle.layers.proofs.Asking.{possible_refused, possible_twice, possible_differs, possible_walked, tally_most, s_most}
-use Rattle.layers.proofs.Refusing.{number_above, state_ready}
+use Rattle.paging.proofs.Numbers.{number_above}
+use Rattle.layers.proofs.Refusing.{state_ready}
 use Rattle.layers.proofs.possible.Goals as goal
 
 pub returns-in_err-check_state : goal.returns-in_err-check_state

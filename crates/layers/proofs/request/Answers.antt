@@ -4,7 +4,8 @@ use Rattle.std.specs.Prelude.{Err}
 use Rattle.std.proofs.lemmas.Result.{err_from_is_err_and}
 use Rattle.paging.specs.Numbers.{number_of}
 use Rattle.paging.specs.declared.reasons.Refusal.TheVariants.{TableFull}
-use Rattle.layers.proofs.Refusing.{number_above, state_ready, sound, counters_fit, request_refused, request_state, request_last, request_full, request_served, pages_same, numbers_same}
+use Rattle.paging.proofs.Numbers.{number_above}
+use Rattle.layers.proofs.Refusing.{state_ready, sound, counters_fit, request_refused, request_state, request_last, request_full, request_served, pages_same, numbers_same}
 use Rattle.layers.proofs.request.Goals as goal
 
 pub returns-in_err-check_state : goal.returns-in_err-check_state

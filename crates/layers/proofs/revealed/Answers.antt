@@ -3,7 +3,8 @@ use Rattle.std.specs.Prelude.{Err}
 use Rattle.std.proofs.lemmas.Result.{err_from_is_err_and}
 use Rattle.paging.specs.Numbers.{number_of}
 use Rattle.layers.proofs.Asking.{revealed_refused, revealed_told, s_most}
-use Rattle.layers.proofs.Refusing.{number_above, state_ready}
+use Rattle.paging.proofs.Numbers.{number_above}
+use Rattle.layers.proofs.Refusing.{state_ready}
 use Rattle.layers.proofs.revealed.Goals as goal
 
 pub returns-in_err-check_state : goal.returns-in_err-check_state

@@ -2,7 +2,7 @@
 use native.Mathlib.Omega.{arith}
 use mathlib.Core.Path.{◌≡◌}
 use Rattle.std.proofs.Common.{Err, rules}
-use Rattle.traces.proofs.CallLaws.{some_number}
+use Rattle.paging.proofs.Numbers.{number_above}
 use Rattle.editions.proofs.CallLaws.{short_by, enough_by, new_starts_damaged, new_barred, new_told, new_length_is, sizes_small, turned_short, turned_whole}
 use Rattle.editions.proofs.new_edition.within.Goals as goal
 
@@ -14,7 +14,7 @@ returns-in_err-k c =
 pub returns-in_err-all : goal.returns-in_err-all
 returns-in_err-all c =
     let e : c.from_residual-in_err-all.result ≡ Err c.in_err-all.field-0.0 = search rules in
-    rw e (new_barred _ _ _ _ _ c.in_ok-k.ensures _ c.in_err-all.ensures (some_number _))
+    rw e (new_barred _ _ _ _ _ c.in_ok-k.ensures _ c.in_err-all.ensures (number_above _))
 
 pub returns-then-out-all : goal.returns-then-out-all
 returns-then-out-all c =

@@ -4,7 +4,7 @@ use Rattle.std.specs.Prelude.{Err}
 use Rattle.std.proofs.lemmas.Result.{err_from_is_err_and}
 use Rattle.paging.specs.Numbers.{refusal_of}
 use Rattle.paging.proofs.Refusals.{sizes_right}
-use Rattle.layers.proofs.Refusing.{number_above}
+use Rattle.paging.proofs.Numbers.{number_above}
 use Rattle.mark.proofs.Refusals.{room, judged_sizes, judged_lists, judged_record, judged_buffer, judged_layers, judged_times, judged_last, judged_none}
 use Rattle.mark.proofs.refusing.judge.Goals as goal
 use Rattle.mark.proofs.refusing.judge.Goals.{then-not-record_formed-via-then-not-record_formed, then-not-record_formed-via-else-not-record_formed+then-not-buffer_formed}

@@ -3,7 +3,7 @@ use Rattle.std.specs.Prelude.{Err}
 use Rattle.std.proofs.lemmas.Result.{err_from_is_err_and}
 use Rattle.paging.specs.Numbers.{number_of}
 use Rattle.lists.proofs.Choice.{and_false_l, and_false_r}
-use Rattle.layers.proofs.Refusing.{number_above}
+use Rattle.paging.proofs.Numbers.{number_above}
 use Rattle.mark.proofs.Blank.{early_trace, early_numbers, early_times, early_used, early_none}
 use Rattle.mark.proofs.trace.check.Goals as goal
 use Rattle.mark.proofs.trace.check.Goals.{then-numbers-pages-via-then-numbers-pages, then-numbers-pages-via-else-numbers-pages+then-times-pages}
