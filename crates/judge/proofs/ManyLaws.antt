@@ -14,7 +14,7 @@ use Rattle.lists.proofs.Choice.{cases, tests, or_none_l, or_none_r}
 use Rattle.lists.proofs.Leaves.{mem_append}
 use Rattle.lists.proofs.Pages.{mem_append_l}
 use Rattle.repeats.specs.Bits.{words, is_marked, with_mark, AllMarked}
-use Rattle.repeats.proofs.BitLaws.{all_more, length_marked, unmarked}
+use Rattle.repeats.proofs.BitLaws.{all_more, unmarked}
 use Rattle.paging.specs.declared.reasons.Refusal.TheVariants.{WrongRecord}
 use Rattle.paging.specs.Schedule.{pf}
 use Rattle.wire.specs.Numbers.{num32}
@@ -105,7 +105,6 @@ module _ (f : Files) (held : List ℕ) (p : Place) (page : ℕ) where
 pub record Reads (f : Files) (held : List ℕ) (p : Place) (fetches : ℕ) (marks : List ℕ) : Type 0 where
   pub further : p.fetches ≤ fetches
   pub inside : p.from + 10 * fetches ≤ length f.schedule.now
-  pub size : length marks ≡ words
   pub all : AllMarked marks (fetched_pages f.schedule.now p.from fetches)
   pub answer : 0 < length (requests_left f.trace.now p.rest).held → place_answer f held (fetching p fetches) ≡ place_answer f held p
 
@@ -118,16 +117,15 @@ module _ (f : Files) (held : List ℕ) (p : Place) where
       pub reads_stop : true ≡ mem page (held ++ fetched_pages f.schedule.now p.from fetches) → ReadOn f held p (Err WrongRecord)
       reads_stop m = record { answer = λ some. known_stops f held (fetching p fetches) page e some m ∙ r.answer some; more = tt }
 
-      pub reads_next : (after : List ℕ) → false ≡ mem page (held ++ fetched_pages f.schedule.now p.from fetches) → after ≡ with_mark marks page
+      pub reads_next : length marks ≡ words → (after : List ℕ) → false ≡ mem page (held ++ fetched_pages f.schedule.now p.from fetches) → after ≡ with_mark marks page
           → Reads f held p (fetches + 1) after
-      reads_next after m w =
+      reads_next size after m w =
           let i = reads_inside in
           let l = r.further in
           record {
             further = omega arith;
             inside = omega arith;
-            size = ap length w ∙ length_marked marks page ∙ r.size;
-            all = mark_next f.schedule.now p.from fetches marks after page r.size w (ahead_fact f held (fetching p fetches) page e).page_is r.all;
+            all = mark_next f.schedule.now p.from fetches marks after page size w (ahead_fact f held (fetching p fetches) page e).page_is r.all;
             answer = λ some. new_goes_on f held (fetching p fetches) page e some m ∙ r.answer some;
           }
 

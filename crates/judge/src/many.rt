@@ -2,7 +2,7 @@
 // is held already. Marks rule nearly every page out, so that the PFs before it are looked at one by one only where marks meet.
 ghost use Rattle.std.specs.Prelude.{◌+◌, ◌*◌, ◌≤◌, ◌++◌, ◌≡◌, length};
 ghost use Rattle.lists.specs.Pages.{mem};
-ghost use Rattle.repeats.specs.Bits.{words, AllMarked};
+ghost use Rattle.repeats.specs.Bits.{AllMarked};
 ghost use Rattle.judge.specs.inner.Fetches.{fetched_pages};
 ghost use Rattle.judge.specs.inner.Many.{AheadIs, ReadOn};
 
@@ -11,7 +11,7 @@ use crate::fetches::fetched;
 use crate::place::{Files, Place};
 use paging::Refusal;
 use reading::{ScheduleRecord, schedule_within};
-use repeats::bits::{WORDS, mark, marked};
+use repeats::bits::Marks;
 
 // The page of the record ahead, where that is a PF of the open request.
 fn look_ahead(files: &Files<'_>, at: usize, t: usize) -> Option<u32>
@@ -30,21 +30,23 @@ fn look_ahead(files: &Files<'_>, at: usize, t: usize) -> Option<u32>
 }
 
 // The marks of the pages of `count` PFs, from an offset of the schedule on.
-fn mark_all(schedule: &[u8], from: usize, count: usize, marks: &mut [u32])
-    requires { (from + 10 * count ≤ length schedule.now) × (length marks.old ≡ words) }
-    ensures { AllMarked marks.new (fetched_pages schedule.now from count) }
+fn all_marked(schedule: &[u8], from: usize, count: usize) -> Marks
+    requires { from + 10 * count ≤ length schedule.now }
+    ensures { AllMarked result.bits (fetched_pages schedule.now from count) }
 {
+    let mut marks = Marks::none();
     for i in 0..count {
-        mark(marks, wire::read32(schedule, from + 10 * i + 6));
+        marks.set(wire::read32(schedule, from + 10 * i + 6));
     }
+    marks
 }
 
 // Whether the page is held or one of those PFs', whose marks are set.
-fn known(held: &Held, schedule: &[u8], from: usize, count: usize, marks: &[u32], page: u32) -> bool
-    requires { (from + 10 * count ≤ length schedule.now) × (length marks.now ≡ words) × AllMarked marks.now (fetched_pages schedule.now from count) }
+fn known(held: &Held, schedule: &[u8], from: usize, count: usize, marks: &Marks, page: u32) -> bool
+    requires { (from + 10 * count ≤ length schedule.now) × AllMarked marks.now.bits (fetched_pages schedule.now from count) }
     ensures { result ≡ mem page (held.now ++ fetched_pages schedule.now from count) }
 {
-    held.has(page) || marked(marks, page) && fetched(schedule, from, count, page)
+    held.has(page) || marks.has(page) && fetched(schedule, from, count, page)
 }
 
 // The PFs of the open request behind the place's own.
@@ -52,10 +54,10 @@ fn read_on(
     files: &Files<'_>,
     held: &Held,
     place: Place,
-    marks: &mut [u32],
+    marks: &mut Marks,
 ) -> Result<Place, Refusal>
-    requires { (place.from + 10 * place.fetches ≤ length files.now.schedule.now) × (length marks.old ≡ words)
-        × AllMarked marks.old (fetched_pages files.now.schedule.now place.from place.fetches) }
+    requires { (place.from + 10 * place.fetches ≤ length files.now.schedule.now)
+        × AllMarked marks.old.bits (fetched_pages files.now.schedule.now place.from place.fetches) }
     ensures { ReadOn files.now held.now place result }
 {
     let mut fetches = place.fetches;
@@ -64,7 +66,7 @@ fn read_on(
         if known(held, files.schedule, place.from, fetches, marks, page) {
             return Err(Refusal::WrongRecord);
         }
-        mark(marks, page);
+        marks.set(page);
         fetches += 1;
     }
     Ok(Place { fetches, ..place })
@@ -75,8 +77,7 @@ fn many(files: &Files<'_>, held: &Held, place: Place) -> Result<Place, Refusal>
     requires { place.from + 10 * place.fetches ≤ length files.now.schedule.now }
     ensures { ReadOn files.now held.now place result }
 {
-    let mut marks = [0u32; WORDS];
-    mark_all(files.schedule, place.from, place.fetches, &mut marks);
+    let mut marks = all_marked(files.schedule, place.from, place.fetches);
     read_on(files, held, place, &mut marks)
 }
 

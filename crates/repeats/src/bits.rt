@@ -1,9 +1,15 @@
 // Marks for pages: 2,097,152 bits, of which each page has two. Pages share bits: a mark that is not set rules a page out, one that is set does
 // not rule it in. Of 200,000 random pages about one in ninety meets the bits of others.
-ghost use Rattle.std.specs.Prelude.{◌<◌, ◌≡◌, length};
+ghost use Rattle.std.specs.Prelude.{◌<◌, ◌≡◌, length, replicate};
 ghost use Rattle.repeats.specs.Bits.{words, fold_of, product_of, bit_of, is_set, with_bit, is_marked, with_mark};
 
-pub const WORDS: usize = 65536;
+const WORDS: usize = 65536;
+
+#[derive(Drop)]
+pub struct Marks {
+    bits: [u32; WORDS],
+    ghost all: { length bits ≡ words },
+}
 
 // A page's first bit, in the first half of them. Neighbours have bits of their own, and so have pages that differ only in their high halves.
 fn fold(page: u32) -> u32
@@ -26,34 +32,40 @@ fn bit_in_word(bit: u32) -> u32
     1 << (bit % 32)
 }
 
-fn is_set(marks: &[u32], bit: u32) -> bool
-    requires { (length marks.now ≡ words) × (bit < 2097152) }
-    ensures { result ≡ is_set marks.now bit }
-{
-    marks[(bit / 32) as usize] & bit_in_word(bit) > 0
-}
+impl Marks {
+    // No page's mark is set.
+    pub fn none() -> Marks
+        ensures { result.bits ≡ replicate words 0 }
+    {
+        Marks { bits: [0; WORDS] }
+    }
 
-fn set_bit(marks: &mut [u32], bit: u32)
-    requires { (length marks.old ≡ words) × (bit < 2097152) }
-    ensures { marks.new ≡ with_bit marks.old bit }
-{
-    let at = (bit / 32) as usize;
-    marks[at] |= bit_in_word(bit);
-}
+    fn is_set(&self, bit: u32) -> bool
+        requires { bit < 2097152 }
+        ensures { result ≡ is_set self.now.bits bit }
+    {
+        self.bits[(bit / 32) as usize] & bit_in_word(bit) > 0
+    }
 
-// Whether the page's mark is set.
-pub fn marked(marks: &[u32], page: u32) -> bool
-    requires { length marks.now ≡ words }
-    ensures { result ≡ is_marked marks.now page }
-{
-    is_set(marks, fold(page)) && is_set(marks, product(page))
-}
+    fn set_bit(&mut self, bit: u32)
+        requires { bit < 2097152 }
+        ensures { self.new.bits ≡ with_bit self.old.bits bit }
+    {
+        self.bits[(bit / 32) as usize] |= bit_in_word(bit);
+    }
 
-// The page's mark is set.
-pub fn mark(marks: &mut [u32], page: u32)
-    requires { length marks.old ≡ words }
-    ensures { marks.new ≡ with_mark marks.old page }
-{
-    set_bit(marks, fold(page));
-    set_bit(marks, product(page));
+    // Whether the page's mark is set.
+    pub fn has(&self, page: u32) -> bool
+        ensures { result ≡ is_marked self.now.bits page }
+    {
+        self.is_set(fold(page)) && self.is_set(product(page))
+    }
+
+    // The page's mark is set.
+    pub fn set(&mut self, page: u32)
+        ensures { self.new.bits ≡ with_mark self.old.bits page }
+    {
+        self.set_bit(fold(page));
+        self.set_bit(product(page));
+    }
 }

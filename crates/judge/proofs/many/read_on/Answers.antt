@@ -9,4 +9,5 @@ pub loop-page-smaller : goal.loop-page-smaller
 loop-page-smaller c = let i = reads_inside _ _ _ _ _ c.loop-page.invariant c.in-Some.page c.in-Some.ensures in omega arith
 
 pub loop-page-preserved : goal.loop-page-preserved
-loop-page-preserved c = reads_next _ _ _ _ _ c.loop-page.invariant c.in-Some.page c.in-Some.ensures c.mark.new.marks c.if-known.ensures c.mark.ensures
+loop-page-preserved c =
+    reads_next _ _ _ _ _ c.loop-page.invariant c.in-Some.page c.in-Some.ensures c.loop-page.marks.all _ c.if-known.ensures c.set.ensures
