@@ -1,17 +1,8 @@
 use native.Mathlib.Omega.{arith}
 use mathlib.Core.Path.{sym, ◌∙◌}
-use borrow.Author.Tests.{eqb-true, eqb-false}
-use Rattle.layers.proofs.Reading.{order_none, order_first, order_first_bad, order_next, order_bad, order_end}
+use borrow.Author.Tests.{eqb-false}
+use Rattle.layers.proofs.Reading.{order_first, order_first_bad, order_next, order_bad, order_end}
 use Rattle.layers.proofs.formed.in_order.Goals as goal
-
-pub returns-then-is_empty : goal.returns-then-is_empty
-returns-then-is_empty c = order_none c.args.numbers.now c.args.pages.now c.requires (eqb-true _ _ (sym c.is_empty.ensures ∙ c.if-is_empty.true))
-
-pub bounds-numbers-0 : goal.bounds-numbers-0
-bounds-numbers-0 c = let some = eqb-false _ _ (sym c.is_empty.ensures ∙ c.if-is_empty.false) in omega arith
-
-pub bounds-pages-0 : goal.bounds-pages-0
-bounds-pages-0 c = let some = eqb-false _ _ (sym c.is_empty.ensures ∙ c.if-is_empty.false) in omega arith
 
 pub returns-then-not-used_or_zero : goal.returns-then-not-used_or_zero
 returns-then-not-used_or_zero c =

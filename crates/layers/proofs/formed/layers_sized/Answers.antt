@@ -6,15 +6,6 @@ use Rattle.layers.proofs.WellFormed.{sized_first, sized_second, sized_third, siz
 use Rattle.layers.proofs.formed.layers_sized.Goals as goal
 use Rattle.layers.proofs.formed.layers_sized.Goals.{then-present, else-present}
 
-pub present-requires : goal.present-requires
-present-requires c = let l = c.tally-sizes.ensures.long in (l, omega arith)
-
-pub single_above-requires : goal.single_above-requires
-single_above-requires c = let l = c.tally-sizes.ensures.long in (l, omega arith)
-
-pub single_above-requires-else-limit-s : goal.single_above-requires-else-limit-s
-single_above-requires-else-limit-s c = let l = c.tally-sizes.ensures.long in (l, omega arith)
-
 pub returns-else-single_above : goal.returns-else-single_above
 returns-else-single_above c =
     let run = c.args.run in

@@ -1,7 +1,7 @@
 use Prim.Native.Nat.{◌+◌, ◌-◌}
 use mathlib.Core.Path.{◌≡◌}
 use native.Mathlib.Omega.{arith}
-use Rattle.layers.proofs.Reading.{present_next, present_bad, present_end}
+use Rattle.layers.proofs.Reading.{present_next, present_bad}
 use Rattle.layers.proofs.formed.present.Goals as goal
 
 pub returns-then-sizes-i-eq0 : goal.returns-then-sizes-i-eq0
@@ -25,9 +25,3 @@ loop-i-preserved c =
     let loop-test = c.loop-i-test in
     let back : i - 1 + 1 ≡ i = omega arith in
     (omega arith, present_next s i sizes loop-test.true inv.1 (rw back at c.if-sizes-i-eq0.false))
-
-pub returns : goal.returns
-returns c =
-    let s = c.args.s in
-    let sizes = c.args.sizes.now in
-    present_end s c.loop-i.i sizes c.loop-i-test.false c.loop-i.invariant.1

@@ -1,6 +1,6 @@
 use native.Mathlib.Omega.{arith}
 use mathlib.Core.Path.{refl}
-use Rattle.layers.proofs.Reading.{tally_start, tally_low, tally_one, tally_skip, tally_end}
+use Rattle.layers.proofs.Reading.{tally_start, tally_low, tally_one, tally_skip}
 use Rattle.layers.proofs.formed.tally.Goals as goal
 use Rattle.layers.proofs.formed.tally.Goals.{then-n-lt-NUMBERS, else-n-lt-NUMBERS}
 
@@ -22,6 +22,3 @@ loop-number-preserved c =
       | then-n-lt-NUMBERS w ↦ rw w.sizes-is (tally_one numbers loop.sizes loop.number-index _ c.loop-number-test.true loop.invariant refl w.if-n-lt-NUMBERS.true)
       | else-n-lt-NUMBERS w ↦ rw w.sizes-is (tally_skip numbers loop.sizes loop.number-index _ c.loop-number-test.true loop.invariant refl w.if-n-lt-NUMBERS.false)
     ]
-
-pub returns : goal.returns
-returns c = tally_end c.args.numbers.now c.loop-number.sizes c.loop-number.number-index (omega arith) c.loop-number.invariant

@@ -3,8 +3,8 @@ use mathlib.Core.List.{map}
 use mathlib.Core.Path.{sym, ◌∙◌}
 use Rattle.paging.specs.Rows.{rows_of}
 use Rattle.paging.specs.Table.{number_in}
-use Rattle.layers.proofs.Asking.{map_get, map_in, map_past}
-use Rattle.layers.proofs.Reading.{tally_start, tally_low, tally_one, tally_skip, tally_end}
+use Rattle.layers.proofs.Asking.{map_get, map_in}
+use Rattle.layers.proofs.Reading.{tally_start, tally_low, tally_one, tally_skip}
 use Rattle.layers.proofs.questions.tally_set.Goals as goal
 use Rattle.layers.proofs.questions.tally_set.Goals.{then-n-lt-NUMBERS, else-n-lt-NUMBERS}
 
@@ -32,9 +32,3 @@ loop-page-preserved c =
       | then-n-lt-NUMBERS w ↦ rw w.sizes-is (tally_one (map f set) loop.sizes loop.page-index _ within loop.invariant (c.number_in-n.ensures ∙ sym at) w.if-n-lt-NUMBERS.true)
       | else-n-lt-NUMBERS w ↦ rw w.sizes-is (tally_skip (map f set) loop.sizes loop.page-index _ within loop.invariant (c.number_in-n.ensures ∙ sym at) w.if-n-lt-NUMBERS.false)
     ]
-
-pub returns : goal.returns
-returns c =
-    let set = c.args.set.now in
-    let f = number_in (rows_of c.args.numbers.now c.args.pages.now) in
-    tally_end (map f set) c.loop-page.sizes c.loop-page.page-index (map_past f set c.loop-page.page-index (omega arith)) c.loop-page.invariant

@@ -2,7 +2,7 @@ use native.Mathlib.Omega.{arith}
 use mathlib.Core.Path.{refl, sym}
 use lib.ListN.{length-take, length-append, length-drop}
 use Rattle.std.specs.Prelude.{Some, None}
-use Rattle.layers.proofs.TraceLaws.{nothing_served, at_end, too_full, joins_fit, goes_on, stepped_lists, filled_prefix}
+use Rattle.layers.proofs.TraceLaws.{nothing_served, too_full, goes_on, stepped_lists, filled_prefix}
 use Rattle.layers.proofs.trace.serve_all.Goals as goal
 
 pub loop-page-init : goal.loop-page-init
@@ -30,20 +30,6 @@ returns-in_err-stepped c =
     (stepped_lists args.k args.a args.trace.now turn.s _ turn.joins turn.used turn.page-index _ c.min-m.result _ turn.numbers turn.pages step.new.numbers step.new.pages
     None inv.0 inv.1 inv.2 (omega arith) refl step.auto.pages step.auto.numbers c.in_err-stepped.ensures) refl)
 
-pub overflow_add-joins : goal.overflow_add-joins
-overflow_add-joins c =
-    let args = c.args in
-    let turn = c.loop-page in
-    let inv = turn.invariant in
-    let step = c.step in
-    let least = c.min-m.ensures in
-    record {
-      fits = joins_fit _ _ _ _ _ _ _ _ _ inv.2 c.loop-page-test.true _ c.in_ok-stepped.stepped
-          (stepped_lists args.k args.a args.trace.now turn.s _ turn.joins turn.used turn.page-index _ c.min-m.result _ turn.numbers turn.pages step.new.numbers step.new.pages
-          (Some c.in_ok-stepped.stepped) inv.0 inv.1 inv.2 (omega arith) refl step.auto.pages step.auto.numbers c.in_ok-stepped.ensures)
-          _ c.requires.2 c.bundles-joins.ensures;
-    }
-
 pub loop-page-preserved : goal.loop-page-preserved
 loop-page-preserved c =
     let args = c.args in
@@ -60,6 +46,3 @@ loop-page-preserved c =
           (Some c.in_ok-stepped.stepped) inv.0 inv.1 inv.2 (omega arith) refl step.auto.pages step.auto.numbers c.in_ok-stepped.ensures)
           _ c.bundles-joins.ensures,
     )
-
-pub returns : goal.returns
-returns c = at_end _ _ _ _ _ _ _ _ _ c.loop-page.invariant.2 (omega arith)
