@@ -12,7 +12,8 @@ mod together;
 // So few pages are quicker found one by one than by sorting all.
 const FEW: usize = 16;
 
-// Takes a of the n cached pages out, and puts their page numbers into the evicted list, the first to leave first.
+// Takes a of the n cached pages out, and puts their page numbers into the evicted list, the first to leave first. The lists that are written are lent one by
+// one, as C lends them; where they are only read they are one struct.
 pub fn bundle(
     a: usize,
     n: usize,

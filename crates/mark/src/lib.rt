@@ -7,6 +7,7 @@ ghost use Rattle.mark.specs.Calls.{empty_run, Answered};
 ghost use Rattle.mark.specs.Lent.{lent};
 ghost use Rattle.mark.specs.Traces.{table_with, OverTrace};
 
+use crate::refusing::LentLists;
 use crate::serving::{Point, TablePoint};
 use layers::LayersRun;
 use paging::{Outcome, Refusal, Sizes};
@@ -79,9 +80,16 @@ pub fn request(
         (lent cache.new marks.new priorities.new evicted.new
         pages.new numbers.new times.new) }
 {
-    let revealed = refusing::judge(
-        run, count, cache, marks, priorities, evicted, pages, numbers, times,
-    )?;
+    let lists = LentLists {
+        cache,
+        marks,
+        priorities,
+        evicted,
+        pages,
+        numbers,
+        times,
+    };
+    let revealed = refusing::judge(run, count, lists)?;
     let table = TablePoint {
         s: run.layers.s,
         t: run.t,

@@ -8,27 +8,33 @@ ghost use Rattle.mark.specs.inner.Judging.{JudgedTo};
 use crate::MarkRun;
 use paging::{Refusal, Sizes};
 
-// Whether a list is too short, or one of a length that it may not have.
-fn lists_refused(
-    k: usize,
-    a: usize,
-    cache: &[u32],
-    marks: &[u32],
-    priorities: &[u64],
-    evicted: &[u32],
-    pages: &[u32],
-    numbers: &[u32],
-    times: &[u32],
-) -> bool
-    ensures { result ≡ lists_refused k a (lent cache.now marks.now priorities.now evicted.now
-        pages.now numbers.now times.now) }
-{
-    cache.len() < k
-        || marks.len() != cache.len()
-        || priorities.len() != cache.len()
-        || evicted.len() < a
-        || numbers.len() != pages.len()
-        || times.len() != pages.len()
+// The seven lists that a request is lent, to read.
+#[derive(Clone, Copy)]
+pub(crate) struct LentLists<'a> {
+    pub cache: &'a [u32],
+    pub marks: &'a [u32],
+    pub priorities: &'a [u64],
+    pub evicted: &'a [u32],
+    pub pages: &'a [u32],
+    pub numbers: &'a [u32],
+    pub times: &'a [u32],
+}
+
+impl LentLists<'_> {
+    // Whether a list is too short, or one of a length that it may not have.
+    fn refused(self, k: usize, a: usize) -> bool
+        ensures { result ≡ lists_refused k a (lent self.entry.cache.now self.entry.marks.now self.entry.priorities.now self.entry.evicted.now
+            self.entry.pages.now self.entry.numbers.now self.entry.times.now) }
+    {
+        let held = self.cache.len();
+        let places = self.pages.len();
+        held < k
+            || self.marks.len() != held
+            || self.priorities.len() != held
+            || self.evicted.len() < a
+            || self.numbers.len() != places
+            || self.times.len() != places
+    }
 }
 
 // Whether the counters of the record fit each other, and those of the layers' record in it.
@@ -67,35 +73,23 @@ fn times_formed(t: u32, numbers: &[u32], times: &[u32]) -> bool
 
 // The refusals in order; where none holds, how many pages are revealed. The layers' table is judged by a question to the layers: sizes and lengths are
 // judged before it, so that what it refuses is ill formed.
-pub(crate) fn judge(
-    run: MarkRun,
-    count: u32,
-    cache: &[u32],
-    marks: &[u32],
-    priorities: &[u64],
-    evicted: &[u32],
-    pages: &[u32],
-    numbers: &[u32],
-    times: &[u32],
-) -> Result<u32, Refusal>
-    ensures { JudgedTo run count (lent cache.now marks.now priorities.now evicted.now
-        pages.now numbers.now times.now) result }
+pub(crate) fn judge(run: MarkRun, count: u32, lists: LentLists) -> Result<u32, Refusal>
+    ensures { JudgedTo run count (lent lists.entry.cache.now lists.entry.marks.now lists.entry.priorities.now lists.entry.evicted.now
+        lists.entry.pages.now lists.entry.numbers.now lists.entry.times.now) result }
 {
     let k = run.k;
     let a = run.a;
     Sizes { k, a }.check()?;
-    if lists_refused(
-        k as usize, a as usize, cache, marks, priorities, evicted, pages, numbers, times,
-    ) {
+    if lists.refused(k as usize, a as usize) {
         return Err(Refusal::TooLittleRoom);
     }
-    if !record_formed(run) || !buffer_formed(k, count, cache, marks) {
+    if !record_formed(run) || !buffer_formed(k, count, lists.cache, lists.marks) {
         return Err(Refusal::IllFormed);
     }
-    let Ok(revealed) = layers::revealed(run.layers, pages, numbers) else {
+    let Ok(revealed) = layers::revealed(run.layers, lists.pages, lists.numbers) else {
         return Err(Refusal::IllFormed);
     };
-    if !times_formed(run.t, numbers, times) {
+    if !times_formed(run.t, lists.numbers, lists.times) {
         return Err(Refusal::IllFormed);
     }
     if run.requests == MarkRun::COUNTER_MAX {

@@ -99,7 +99,8 @@ pub(crate) fn advance(
     })
 }
 
-// One request on all lists. Where the table has no room, nothing is done.
+// One request on all lists. Where the table has no room, nothing is done. C lends the lists one by one, and those that are written stay so here: a struct of
+// them was proved for three, with a clause more for each list in every function, that it is still the caller's.
 pub(crate) fn step(
     k: u32,
     a: u32,

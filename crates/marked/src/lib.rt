@@ -20,7 +20,8 @@ pub struct Served {
     pub count: usize,
 }
 
-// Serves a request, which gets the priority, on n cached pages; with `clear` all marks are cleared first. A bundle goes into the evicted list.
+// Serves a request, which gets the priority, on n cached pages; with `clear` all marks are cleared first. A bundle goes into the evicted list. The lists are
+// lent one by one, as C lends them: a struct of the three was proved for `wipe`, with a clause more for each list, that it is still the caller's.
 pub fn serve(
     k: usize,
     a: usize,

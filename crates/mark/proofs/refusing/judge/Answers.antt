@@ -16,21 +16,21 @@ returns-in_err-check c =
     let e : c.from_residual.result ≡ Err reason = r.1 ∙ ap Err r.2 in
     rw e (judged_sizes _ _ _ reason c.in_err-check.ensures)
 
-pub returns-then-lists_refused : goal.returns-then-lists_refused
-returns-then-lists_refused c =
+pub returns-then-refused : goal.returns-then-refused
+returns-then-refused c =
     let right = sizes_right _ _ (sym c.in_ok-check.ensures) in
-    judged_lists _ _ _ right (sym c.if-lists_refused.true ∙ c.lists_refused.ensures)
+    judged_lists _ _ _ right (sym c.if-refused.true ∙ c.refused.ensures)
 
 pub buffer_formed-requires : goal.buffer_formed-requires
 buffer_formed-requires c =
     let right = sizes_right _ _ (sym c.in_ok-check.ensures) in
-    let R = room c.args.run c.args.count _ right (sym c.if-lists_refused.false ∙ c.lists_refused.ensures) in
+    let R = room c.args.run c.args.count _ right (sym c.if-refused.false ∙ c.refused.ensures) in
     (R.cache_room, omega (arith, R.cache_room, R.marks_even))
 
 pub returns-then-not-record_formed : goal.returns-then-not-record_formed
 returns-then-not-record_formed c =
     let right = sizes_right _ _ (sym c.in_ok-check.ensures) in
-    let roomy = sym c.if-lists_refused.false ∙ c.lists_refused.ensures in
+    let roomy = sym c.if-refused.false ∙ c.refused.ensures in
     elim c.then-not-record_formed.branch [
       | then-not-record_formed-via-then-not-record_formed w ↦ judged_record _ _ _ right roomy (sym w.if-not-record_formed.true ∙ c.record_formed.ensures)
       | then-not-record_formed-via-else-not-record_formed+then-not-buffer_formed w ↦ judged_buffer _ _ _ right roomy (sym w.if-not-buffer_formed.true ∙ w.buffer_formed.ensures)
@@ -39,33 +39,33 @@ returns-then-not-record_formed c =
 pub returns-in_default : goal.returns-in_default
 returns-in_default c =
     let right = sizes_right _ _ (sym c.in_ok-check.ensures) in
-    let roomy = sym c.if-lists_refused.false ∙ c.lists_refused.ensures in
+    let roomy = sym c.if-refused.false ∙ c.refused.ensures in
     judged_layers _ _ _ right roomy (sym c.if-not-record_formed.false ∙ c.record_formed.ensures) _ c.revealed.ensures
     (λ z. number_above c.in_default.field-0 (sym (ap refusal_of c.in_default.is) ∙ z))
 
 pub times_formed-requires : goal.times_formed-requires
 times_formed-requires c =
     let right = sizes_right _ _ (sym c.in_ok-check.ensures) in
-    let R = room c.args.run c.args.count _ right (sym c.if-lists_refused.false ∙ c.lists_refused.ensures) in
+    let R = room c.args.run c.args.count _ right (sym c.if-refused.false ∙ c.refused.ensures) in
     R.times_even ∙ sym R.numbers_even
 
 pub returns-then-not-times_formed : goal.returns-then-not-times_formed
 returns-then-not-times_formed c =
     let right = sizes_right _ _ (sym c.in_ok-check.ensures) in
-    let roomy = sym c.if-lists_refused.false ∙ c.lists_refused.ensures in
+    let roomy = sym c.if-refused.false ∙ c.refused.ensures in
     judged_times _ _ _ right roomy (sym c.if-not-record_formed.false ∙ c.record_formed.ensures) _ c.revealed.ensures (sym c.if-not-times_formed.true ∙ c.times_formed.ensures)
 
 pub returns-then-run-eq-COUNTER_MAX : goal.returns-then-run-eq-COUNTER_MAX
 returns-then-run-eq-COUNTER_MAX c =
     let right = sizes_right _ _ (sym c.in_ok-check.ensures) in
-    let roomy = sym c.if-lists_refused.false ∙ c.lists_refused.ensures in
+    let roomy = sym c.if-refused.false ∙ c.refused.ensures in
     judged_last _ _ _ right roomy (sym c.if-not-record_formed.false ∙ c.record_formed.ensures) _ c.revealed.ensures
     (sym c.if-not-buffer_formed.false ∙ c.buffer_formed.ensures) _ c.in-Ok.is (sym c.if-not-times_formed.false ∙ c.times_formed.ensures) c.if-run-eq-COUNTER_MAX.true
 
 pub returns : goal.returns
 returns c =
     let right = sizes_right _ _ (sym c.in_ok-check.ensures) in
-    let roomy = sym c.if-lists_refused.false ∙ c.lists_refused.ensures in
+    let roomy = sym c.if-refused.false ∙ c.refused.ensures in
     let last = c.if-run-eq-COUNTER_MAX.false in
     judged_none _ _ _ right roomy (sym c.if-not-record_formed.false ∙ c.record_formed.ensures) _ c.revealed.ensures
     (sym c.if-not-buffer_formed.false ∙ c.buffer_formed.ensures) _ c.in-Ok.is (sym c.if-not-times_formed.false ∙ c.times_formed.ensures) (omega (arith, last))
