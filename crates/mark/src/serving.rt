@@ -85,7 +85,16 @@ pub(crate) fn advance(
     let revealed = rank::is_revealed(at, used, point.revealed);
     let t = rank::time_after(point.t, revealed);
     let priority = rank::priority(t, rank::t0_of(times, at, used, t));
-    let moved = timed::step(k, a, point.s, page, t, at, used, pages, numbers, times)?;
+    let asked = timed::Asked {
+        k,
+        a,
+        s: point.s,
+        page,
+        time: t,
+        at,
+        used,
+    };
+    let moved = timed::step(asked, pages, numbers, times)?;
     let after = TablePoint {
         s: moved.s,
         t,
