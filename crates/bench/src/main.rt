@@ -2,46 +2,36 @@
 // All that matters is in the crate `report`.
 #![tactic(auto)]
 
-use report::Report;
+use report::{PolicyFigures, Report};
 use std::io::Stdout;
 use streams::Output;
 
-fn refused(out: Output<Stdout, HostRuntime>, number: u32) {
-    out.text(b"refused").field(number).end_line();
+type Lines = Output<Stdout, HostRuntime>;
+
+// A policy's line.
+fn policy(out: Lines, name: &[u8], counts: PolicyFigures) -> Lines {
+    out.text(name)
+        .field(counts.bundles)
+        .field(counts.loads)
+        .end_line()
 }
 
-fn figures(out: Output<Stdout, HostRuntime>, r: Report) {
+fn figures(out: Lines, r: Report) -> Lines {
     let out = out
         .text(b"trace")
         .field(r.k)
         .field(r.a)
         .field(r.requests)
         .end_line();
-    let out = out
-        .text(b"min")
-        .field(r.min.bundles)
-        .field(r.min.loads)
-        .end_line();
-    let out = out
-        .text(b"lru")
-        .field(r.lru.bundles)
-        .field(r.lru.loads)
-        .end_line();
-    let out = out
-        .text(b"fifo")
-        .field(r.fifo.bundles)
-        .field(r.fifo.loads)
-        .end_line();
-    let out = out
-        .text(b"mark")
-        .field(r.mark.bundles)
-        .field(r.mark.loads)
-        .end_line();
+    let out = policy(out, b"min", r.min);
+    let out = policy(out, b"lru", r.lru);
+    let out = policy(out, b"fifo", r.fifo);
+    let out = policy(out, b"mark", r.mark);
     out.text(b"layers")
         .field(r.layers.bundles)
         .field(r.layers.s)
         .field(r.layers.revealed)
-        .end_line();
+        .end_line()
 }
 
 // Where the input cannot be read, nothing is printed: figures of a part would be wrong.
@@ -50,11 +40,9 @@ fn main(rt: HostRuntime) {
     let Ok(n) = streams::read(&mut rt.stdin(), &rt, &mut input) else {
         return;
     };
-    let r = report::of_input(&input[..n]);
     let out = Output::new(rt.stdout(), rt);
-    if r.refusal != 0 {
-        refused(out, r.refusal);
-    } else {
-        figures(out, r);
-    }
+    match report::of_input(&input[..n]) {
+        Ok(r) => figures(out, r),
+        Err(reason) => out.text(b"refused").field(reason.number()).end_line(),
+    };
 }

@@ -5,30 +5,29 @@ use mathlib.Core.List.{List}
 use mathlib.Core.Path.{◌≡◌, refl, sym, ap, ◌∙◌}
 use lib.ListN.{length, take, drop, replicate, length-replicate}
 use lib.Seq.{take-append_seam}
+use Rattle.std.specs.Prelude.{Err}
+use Rattle.paging.proofs.Numbers.{number_above}
+use Rattle.paging.specs.declared.reasons.Refusal.{Refusal}
 use Rattle.paging.specs.Layers.{no_layers, layers_after, join_count}
 use Rattle.paging.specs.Refusals.{trace_refusal, SizesRight}
 use Rattle.paging.proofs.Refusals.{trace_taken}
 use Rattle.paging.proofs.Table.{tabled_top}
 use Rattle.paging.specs.declared.Keeping.TheVariants.{ByRequest, ByLoad}
-use Rattle.traces.specs.Calls.{count_of, pages_after}
+use Rattle.traces.specs.Calls.{TraceCountAnswer, count_of, pages_after}
 use Rattle.traces.specs.Traces.{TraceFile, trace_file}
-use Rattle.traces.specs.declared.TraceCount.{TraceCount}
 use Rattle.traces.proofs.CallLaws.{CountedWhole, count_refused_lem, count_whole}
 use Rattle.queue.specs.Calls.{totals_of}
-use Rattle.queue.specs.declared.Totals.{Totals}
-use Rattle.layers.specs.Traces.{trace_totals}
-use Rattle.layers.specs.declared.LayersTotals.{LayersTotals}
+use Rattle.queue.specs.Answers.{TotalsAnswer}
+use Rattle.layers.specs.Traces.{LayersTotalsAnswer, layers_totals_answer, trace_totals}
 use Rattle.layers.proofs.Steps.{trace_accepted, trace_counts}
 use Rattle.marking.specs.Marking.{mark_bundles, mark_loads}
 use Rattle.marking.specs.Rdm.{rdm}
-use Rattle.mark.specs.Traces.{Table, table_with}
+use Rattle.mark.specs.Traces.{Table, MarkTotalsAnswer, mark_totals_answer, table_with}
 use Rattle.mark.specs.Traces as mark_totals
-use Rattle.mark.specs.declared.MarkTotals.{MarkTotals}
 use Rattle.mark.proofs.Blank.{trace_marked}
 use Rattle.min.specs.Calls.{counts_of}
-use Rattle.min.specs.declared.Counts.{Counts}
-use Rattle.report.specs.Calls.{counts, layers_counts, figures, revealed_after, refused_report, reported, report_of}
-use Rattle.report.specs.declared.Report.{Report}
+use Rattle.min.specs.Answers.{CountsAnswer, counts_answer}
+use Rattle.report.specs.Calls.{ReportAnswer, report_answer, counts, layers_counts, figures, revealed_after, refused_report, reported, report_of}
 
 module _ (k a : ℕ) (trace : List ℕ) (right : SizesRight k a) (short : length trace ≤ 4096) where
   accepted : trace_refusal k a trace 0 ≡ 0
@@ -51,7 +50,7 @@ module _ (k a : ℕ) (trace : List ℕ) (right : SizesRight k a) (short : length
       ≡ record { refusal = 0; bundles = mark_bundles (rdm k a) k a trace; loads = mark_loads (rdm k a) k a trace }
   marks_take = trace_marked k a trace 4096 right (omega arith) short
 
-  pub figures_told : (m : Counts) (l f : Totals) (n : MarkTotals) (y : LayersTotals)
+  pub figures_told : (m : CountsAnswer) (l f : TotalsAnswer) (n : MarkTotalsAnswer) (y : LayersTotalsAnswer)
       → m ≡ counts_of k a trace → l ≡ totals_of ByRequest k a trace → f ≡ totals_of ByLoad k a trace
       → n ≡ mark_totals.totals_of k a trace blank_table → y ≡ trace_totals k a trace blank blank
       → record {
@@ -69,9 +68,21 @@ module _ (k a : ℕ) (trace : List ℕ) (right : SizesRight k a) (short : length
   figures_told m l f n y em el ef en ey =
       rw (em, el, ef, en ∙ marks_take, ey ∙ layers_take, accepted) refl
 
+  -- so there is no reason for a refusal
+
+  pub min_takes : (reason : Refusal) → counts_answer (Err reason) ≡ counts_of k a trace → report_answer (Err reason) ≡ figures k a trace
+  min_takes reason e = absurd (number_above reason (ap (λ (x : CountsAnswer). x.refusal) e ∙ rw accepted refl))
+
+  pub mark_takes : (reason : Refusal) → mark_totals_answer (Err reason) ≡ mark_totals.totals_of k a trace blank_table → report_answer (Err reason) ≡ figures k a trace
+  mark_takes reason e = absurd (number_above reason (ap (λ (x : MarkTotalsAnswer). x.refusal) (e ∙ marks_take)))
+
+  pub layers_take_all : (reason : Refusal) → layers_totals_answer (Err reason) ≡ trace_totals k a trace blank blank
+      → report_answer (Err reason) ≡ figures k a trace
+  layers_take_all reason e = absurd (number_above reason (ap (λ (x : LayersTotalsAnswer). x.refusal) (e ∙ layers_take)))
+
 -- The whole input
 
-module _ (input : List ℕ) (told : TraceCount) where
+module _ (input : List ℕ) (told : TraceCountAnswer) where
   -- the list as it is lent
   abbrev lent : List ℕ
   lent = replicate 4096 0
@@ -80,7 +91,7 @@ module _ (input : List ℕ) (told : TraceCount) where
     at_4096 : told ≡ count_of (trace_file 4096 input)
     at_4096 = e ∙ ap (λ (n : ℕ). count_of (trace_file n input)) (length-replicate {A = ℕ} 4096 0)
 
-    pub input_refused : (x : Report) → x ≡ refused_report told.refusal → (told.refusal ≡ 0 → ⊥) → x ≡ report_of input
+    pub input_refused : (x : ReportAnswer) → x ≡ refused_report told.refusal → (told.refusal ≡ 0 → ⊥) → x ≡ report_of input
     unfolding report_of
     input_refused x q n = q ∙ sym (ap reported (count_refused_lem 4096 input told at_4096 n))
 
@@ -97,7 +108,7 @@ module _ (input : List ℕ) (told : TraceCount) where
           let filled = q ∙ ap (λ (n : ℕ). pages_after (trace_file n input) lent) (length-replicate {A = ℕ} 4096 0) ∙ ap (λ (x : TraceFile). pages_after x lent) counted.is in
           ap (λ (n : ℕ). take n now) counted.all ∙ ap (take (length counted.pages)) filled ∙ take-append_seam counted.pages (drop (length counted.pages) lent)
 
-      pub input_figures : (now : List ℕ) → now ≡ pages_after (trace_file (length lent) input) lent → (x : Report)
+      pub input_figures : (now : List ℕ) → now ≡ pages_after (trace_file (length lent) input) lent → (x : ReportAnswer)
           → x ≡ figures told.k told.a (take told.requests now) → x ≡ report_of input
       unfolding report_of
       input_figures now q x w = w ∙ ap (figures told.k told.a) (listed now q) ∙ sym (ap reported counted.is)

@@ -8,14 +8,13 @@ use lib.ListN.{length, take, drop, take-append-drop}
 use lib.Seq.{take_all, length-take-le}
 use Rattle.lists.proofs.Choice.{cases, tests}
 use Rattle.traces.proofs.Prefix.{nothing_behind_counts}
-use Rattle.report.specs.Calls.{most_requests, input_bytes, reported, report_of, ReadEnough}
-use Rattle.report.specs.declared.Report.{Report}
+use Rattle.report.specs.Calls.{ReportAnswer, most_requests, input_bytes, reported, report_of, ReadEnough}
 
 pub nothing_behind_is_told : (t u : List ℕ) → input_bytes ≤ length t → report_of (t ++ u) ≡ report_of t
 unfolding report_of
 nothing_behind_is_told t u h = ap reported (nothing_behind_counts t u most_requests (omega arith))
 
-pub read_enough : (s : List ℕ) (report : Report) → report ≡ report_of s → (report ≡ report_of s) × ReadEnough input_bytes s report
+pub read_enough : (s : List ℕ) (report : ReportAnswer) → report ≡ report_of s → (report ≡ report_of s) × ReadEnough input_bytes s report
 read_enough s report e = (e, λ h more. e ∙ sym (nothing_behind_is_told s more h))
 
 -- what the bench says of the bytes that it reads, it says of the whole input

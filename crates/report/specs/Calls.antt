@@ -1,12 +1,14 @@
 -- What the bench says of an input (document 01, "The eight-request shift"; document 02, requests 01 and 09): the numbers of its six lines, or a
 -- refusal's number with zeros beside it.
-use Rattle.std.specs.Prelude.{ℕ, ◌+◌, ◌*◌, ◌≤◌, List, ◌++◌, ◌≡◌, length}
+use Rattle.std.specs.Prelude.{ℕ, ◌+◌, ◌*◌, ◌≤◌, List, Result, Ok, Err, ◌++◌, ◌≡◌, length}
 use Rattle.paging.specs.Layers.{join_count, layers_after, no_layers}
 use Rattle.paging.specs.Front.{front_rule, lru_rule}
 use Rattle.paging.specs.Min.{best_count, min_loads}
+use Rattle.paging.specs.Numbers.{number_of}
 use Rattle.paging.specs.Policy.{bundle_count, bundle_count_by, load_count, load_count_by}
 use Rattle.paging.specs.Table.{revealed, tabled_after, nothing_yet}
 use Rattle.paging.specs.declared.Keeping.TheVariants.{ByLoad}
+use Rattle.paging.specs.declared.reasons.Refusal.{Refusal}
 use Rattle.marking.specs.Marking.{mark_bundles, mark_loads}
 use Rattle.marking.specs.Rdm.{rdm}
 use Rattle.traces.specs.Traces.{TraceFile, whole, damaged, trace_file}
@@ -20,7 +22,19 @@ counts bundles loads = record { bundles = bundles; loads = loads }
 abbrev pub layers_counts : (bundles s revealed : ℕ) → LayersFigures
 layers_counts bundles s shown = record { bundles = bundles; s = s; revealed = shown }
 
-abbrev pub refused_report : (number : ℕ) → Report
+-- the numbers of the six lines; or a refusal's number, and zeros
+pub record ReportAnswer : Type 0 where
+  pub refusal : ℕ
+  pub k : ℕ
+  pub a : ℕ
+  pub requests : ℕ
+  pub min : PolicyFigures
+  pub lru : PolicyFigures
+  pub fifo : PolicyFigures
+  pub mark : PolicyFigures
+  pub layers : LayersFigures
+
+abbrev pub refused_report : (number : ℕ) → ReportAnswer
 refused_report number =
     record {
       refusal = number;
@@ -34,12 +48,28 @@ refused_report number =
       layers = layers_counts 0 0 0;
     }
 
+-- what the code's answer says
+abbrev pub report_answer : Result Report Refusal → ReportAnswer
+report_answer (Ok r) =
+    record {
+      refusal = 0;
+      k = r.k;
+      a = r.a;
+      requests = r.requests;
+      min = r.min;
+      lru = r.lru;
+      fifo = r.fifo;
+      mark = r.mark;
+      layers = r.layers;
+    }
+report_answer (Err reason) = refused_report (number_of reason)
+
 -- revealed pages after a trace
 abbrev pub revealed_after : (k a : ℕ) → (trace : List ℕ) → ℕ
 revealed_after k a trace = revealed (tabled_after k a trace nothing_yet).s (tabled_after k a trace nothing_yet).rows
 
 -- k, a, requests; MIN's, LRU's, oldest load's and marking's bundles and loads; the layers' bundles, s, and revealed pages
-unfoldable pub figures : (k a : ℕ) → (trace : List ℕ) → Report
+unfoldable pub figures : (k a : ℕ) → (trace : List ℕ) → ReportAnswer
 figures k a trace =
     record {
       refusal = 0;
@@ -53,7 +83,7 @@ figures k a trace =
       layers = layers_counts (join_count k a trace) (layers_after k a trace no_layers).top (revealed_after k a trace);
     }
 
-abbrev pub reported : TraceFile → Report
+abbrev pub reported : TraceFile → ReportAnswer
 reported (whole k a pages) = figures k a pages
 reported (damaged number) = refused_report number
 
@@ -61,7 +91,7 @@ reported (damaged number) = refused_report number
 abbrev pub most_requests : ℕ
 most_requests = 4096
 
-unfoldable pub report_of : List ℕ → Report
+unfoldable pub report_of : List ℕ → ReportAnswer
 report_of input = reported (trace_file most_requests input)
 
 -- the bytes in which a request too many is seen whole: a KA, and one record more than the bench takes requests. An RR, of 8 bytes, is the longest
@@ -69,5 +99,5 @@ abbrev pub input_bytes : ℕ
 input_bytes = 6 + 8 * (most_requests + 1)
 
 -- so many bytes of an input are enough: whatever follows them, the report is the same
-abbrev pub ReadEnough : (bytes : ℕ) → (input : List ℕ) → Report → Type 0
+abbrev pub ReadEnough : (bytes : ℕ) → (input : List ℕ) → ReportAnswer → Type 0
 ReadEnough bytes input report = bytes ≤ length input → (more : List ℕ) → report ≡ report_of (input ++ more)

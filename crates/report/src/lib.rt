@@ -2,31 +2,31 @@
 #![tactic(auto)]
 
 ghost use Rattle.std.specs.Prelude.{◌≡◌};
-ghost use Rattle.report.specs.Calls.{report_of, refused_report, ReadEnough};
+ghost use Rattle.report.specs.Calls.{report_answer, report_of, ReadEnough};
 
+use paging::Refusal;
 use records::length;
 
 mod figures;
 
 // Bundles and loads of a policy.
-#[derive(Clone, Copy)]
+#[derive(Clone, Copy, Debug, PartialEq, Eq)]
 pub struct PolicyFigures {
     pub bundles: u32,
     pub loads: u32,
 }
 
 // Bundles that the layers count, s, and revealed pages.
-#[derive(Clone, Copy)]
+#[derive(Clone, Copy, Debug, PartialEq, Eq)]
 pub struct LayersFigures {
     pub bundles: u32,
     pub s: u32,
     pub revealed: u32,
 }
 
-// The six lines' numbers; or the refusal's number, and zeros.
-#[derive(Clone, Copy)]
+// The six lines' numbers.
+#[derive(Clone, Copy, Debug, PartialEq, Eq)]
 pub struct Report {
-    pub refusal: u32,
     pub k: u32,
     pub a: u32,
     pub requests: u32,
@@ -43,44 +43,14 @@ impl Report {
 
     // The bytes in which a request too many is seen whole: a KA and one record more than the bench takes requests. An RR is the longest.
     pub const INPUT: usize = length::KA + length::RR * (Report::LONGEST + 1);
-
-    // A refusal.
-    pub fn refused(number: u32) -> Report
-        ensures { result ≡ refused_report number }
-    {
-        let none = PolicyFigures {
-            bundles: 0,
-            loads: 0,
-        };
-        let layers = LayersFigures {
-            bundles: 0,
-            s: 0,
-            revealed: 0,
-        };
-        Report {
-            refusal: number,
-            k: 0,
-            a: 0,
-            requests: 0,
-            min: none,
-            lru: none,
-            fifo: none,
-            mark: none,
-            layers,
-        }
-    }
 }
 
 // What the bench says of a trace file. An input that has `INPUT` bytes need not be read further: whatever follows, the report is the same.
-pub fn of_input(input: &[u8]) -> Report
-    ensures value { result ≡ report_of input.now }
-    ensures read_enough { ReadEnough Report.INPUT input.now result }
+pub fn of_input(input: &[u8]) -> Result<Report, Refusal>
+    ensures value { report_answer result ≡ report_of input.now }
+    ensures read_enough { ReadEnough Report.INPUT input.now (report_answer result) }
 {
     let mut pages = [0u32; Report::LONGEST];
-    let told = traces::fill(input, &mut pages);
-    if told.refusal != 0 {
-        return Report::refused(told.refusal);
-    }
-    let n = told.requests;
-    figures::of(told.k, told.a, &pages[..n])
+    let told = traces::fill(input, &mut pages)?;
+    figures::of(told.k, told.a, &pages[..told.requests])
 }
