@@ -1,10 +1,8 @@
 // One request on a state that was judged, or that a trace has led to: the page is found in the layer table, its priority is worked out, then the table
 // and the cached pages are moved on. No check here but for room in the table, and that before anything is written.
 ghost use Rattle.std.specs.Prelude.{◌≤◌, ◌≡◌};
-ghost use Rattle.lists.specs.Pages.{bit};
 ghost use Rattle.paging.specs.Layers.{is_join};
 ghost use Rattle.paging.specs.Numbers.{kind_of_outcome};
-ghost use Rattle.paging.specs.Policy.{is_bundled, is_load};
 ghost use Rattle.paging.specs.Refusals.{largest_k};
 ghost use Rattle.table.specs.Serving.{rule_of};
 ghost use Rattle.marking.proofs.Whole.{whole_kind};
@@ -154,19 +152,6 @@ pub(crate) fn step(
     })
 }
 
-// The loads and bundles of a request.
-pub(crate) fn loads(outcome: Outcome) -> u32
-    ensures { result ≡ bit (is_load (kind_of_outcome outcome)) }
-{
-    u32::from(!matches!(outcome, Outcome::Hit))
-}
-
-pub(crate) fn bundles(outcome: Outcome) -> u32
-    ensures { result ≡ bit (is_bundled (kind_of_outcome outcome)) }
-{
-    u32::from(matches!(outcome, Outcome::LoadAfterBundle))
-}
-
 // What a request that was served answers.
 pub(crate) fn answered(run: MarkRun, stepped: Stepped) -> MarkReply
     requires { AnswerReady run × (stepped.after.count ≤ largest_k) }
@@ -175,8 +160,8 @@ pub(crate) fn answered(run: MarkRun, stepped: Stepped) -> MarkReply
     let after = stepped.after;
     let run = MarkRun {
         requests: run.requests + 1,
-        loads: run.loads + loads(stepped.outcome),
-        evictions: run.evictions + bundles(stepped.outcome),
+        loads: run.loads + stepped.outcome.loads(),
+        evictions: run.evictions + stepped.outcome.bundles(),
         t: after.table.t,
         layers: run.layers.counted(stepped.rule, after.table.s),
         ..run

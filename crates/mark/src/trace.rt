@@ -80,8 +80,8 @@ fn serve_buffered(
             numbers,
             times,
         )?;
-        bundles += serving::bundles(stepped.outcome);
-        loads += serving::loads(stepped.outcome);
+        bundles += stepped.outcome.bundles();
+        loads += stepped.outcome.loads();
         point = stepped.after;
     }
     Some(MarkTotals { bundles, loads })
@@ -111,8 +111,8 @@ fn serve_whole_bundles(
     for page in trace {
         let moved = serving::advance(k, k, point, *page, pages, numbers, times)?;
         let outcome = serving::whole_outcome(moved.rule);
-        bundles += serving::bundles(outcome);
-        loads += serving::loads(outcome);
+        bundles += outcome.bundles();
+        loads += outcome.loads();
         point = moved.after;
     }
     Some(MarkTotals { bundles, loads })
