@@ -7,28 +7,26 @@ use Rattle.paging.specs.Same.{same_pages, same_entries, shift}
 use Rattle.paging.specs.declared.Keeping.{Keeping}
 use Rattle.paging.specs.declared.Keeping.TheVariants.{ByRequest, ByLoad}
 use Rattle.records.specs.Bytes.{rq, rr, trace_bytes, singles, ev_length_answer}
+use Rattle.queue.specs.Answers.{ReplyAnswer}
 use Rattle.queue.specs.Calls.{reply_of, cache_of, evicted_of, totals_of}
 use Rattle.queue.specs.Serving.{empty_run}
 use Rattle.queue.specs.Standing.{Call, State, after_calls, empty_state}
-use Rattle.queue.specs.declared.Reply.{Reply}
 use Rattle.queue.specs.declared.Run.{Run}
-use Rattle.layers.specs.Calls.{request_refusal, request_reply}
+use Rattle.layers.specs.Calls.{LayersReplyAnswer, request_refusal, request_reply}
 use Rattle.layers.specs.Questions.{Verdict, refused_with, possible_set, count_differs, broken_at, verdict}
 use Rattle.layers.specs.Traces.{trace_totals}
-use Rattle.layers.specs.declared.LayersReply.{LayersReply}
 use Rattle.layers.specs.declared.LayersRun.{LayersRun}
 use Rattle.mark.specs.Calls as mark_calls
 use Rattle.mark.specs.Standing as marking
 use Rattle.mark.specs.Traces as mark_traces
 use Rattle.min.specs.Calls.{counts_of}
-use Rattle.report.specs.Calls.{counts, layers_counts, refused_report, report_of}
-use Rattle.report.specs.declared.Report.{Report}
+use Rattle.report.specs.Calls.{ReportAnswer, counts, layers_counts, refused_report, report_of}
 use Rattle.demands.specs.Demand3.{min_entries}
 use Rattle.demands.specs.LayersCalls.{LayersCall, request, LayersState, layers_start, layers_next, layers_after_calls}
 
 pub data Row : Type 0 where
   -- the bench's report on a file
-  reports : (file : List ℕ) (report : Report) → Row
+  reports : (file : List ℕ) (report : ReportAnswer) → Row
   -- MIN's bundles
   min_evicts : (k a : ℕ) (pages : List ℕ) (entries : List Entry) → Row
   -- after some pages, a request to LRU (by request) or oldest load (by load) leaves this in an evicted list of a places
@@ -125,7 +123,7 @@ two_marked t cache marks priorities times =
 
 -- Compared
 
-abbrev pub same_report : Report → Report → Bool
+abbrev pub same_report : ReportAnswer → ReportAnswer → Bool
 same_report x y =
     eqb x.refusal y.refusal and eqb x.k y.k and eqb x.a y.a and eqb x.requests y.requests
     and eqb x.min.bundles y.min.bundles and eqb x.min.loads y.min.loads
@@ -142,12 +140,12 @@ spelled count_differs = 2 ∷ 0 ∷ []
 spelled (broken_at layer) = 3 ∷ layer ∷ []
 
 -- the fields of a reply of LRU or oldest load, the record's after the refusal
-abbrev pub queue_fields : Reply → List ℕ
+abbrev pub queue_fields : ReplyAnswer → List ℕ
 queue_fields r =
     r.refusal ∷ r.run.k ∷ r.run.a ∷ r.run.requests ∷ r.run.loads ∷ r.run.evictions ∷ r.count ∷ r.answer ∷ []
 
 -- and of one of the layers
-abbrev pub fields_of : LayersReply → List ℕ
+abbrev pub fields_of : LayersReplyAnswer → List ℕ
 fields_of r =
     r.refusal ∷ r.run.k ∷ r.run.a ∷ r.run.requests ∷ r.run.evictions ∷ r.run.s
     ∷ r.run.appends ∷ r.run.joins ∷ r.run.lifts ∷ r.answer ∷ []

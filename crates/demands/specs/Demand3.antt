@@ -1,5 +1,5 @@
 -- Demand 3 (document 01, "What demand 3 compares"), whole: one record with a field for each of its sentences, and for each that document 02 adds.
-use Rattle.std.specs.Prelude.{ℕ, ◌*◌, ◌≤◌, true, List, [], ◌↔◌, ◌⊎◌, ◌≡◌, pos, length}
+use Rattle.std.specs.Prelude.{ℕ, ◌*◌, ◌≤◌, true, List, [], Result, Ok, ◌↔◌, ◌⊎◌, ◌≡◌, pos, length}
 use Rattle.lists.specs.Pages.{distinct}
 use Rattle.paging.specs.Layers.{no_layers, layers_after, BreaksFirstAt}
 use Rattle.paging.specs.Min.{min_rule, best_count}
@@ -7,6 +7,7 @@ use Rattle.paging.specs.Policy.{holds, bundles}
 use Rattle.paging.specs.Refusals.{largest_k, trace_refusal}
 use Rattle.paging.specs.Schedule.{Entry, serves, entries_cost}
 use Rattle.paging.specs.declared.Keeping.TheVariants.{ByRequest, ByLoad}
+use Rattle.paging.specs.declared.reasons.Refusal.{Refusal}
 use Rattle.marking.specs.Marking.{PriorityRule, mark_bundles}
 use Rattle.theory.specs.Factor.{ceil_div}
 use Rattle.theory.specs.Possible.{CanHold, HoldsJust}
@@ -21,8 +22,7 @@ use Rattle.min.specs.Calls.{counts_of, schedule_refusal, scheduled_of, schedule_
 use Rattle.judging.specs.Answer.{refused, answer_number}
 use Rattle.judging.specs.Files.{judged}
 use Rattle.judging.specs.LegalFiles.{LegalFiles}
-use Rattle.report.specs.Calls.{report_of}
-use Rattle.report.specs.declared.Report.{Report}
+use Rattle.report.specs.Calls.{ReportAnswer, report_of}
 use Rattle.demands.specs.LayersCalls.{LayersCall, layers_start, layers_after_calls, layers_trace}
 
 -- MIN's bundles of a trace as EVs
@@ -57,21 +57,21 @@ pub record Compares (k a : ℕ) : Type 0 where
   -- "after a layers list a set, its pages each named once, in any order, is answered possible exactly if pages can be put behind the
   -- trace so that MIN's rule, on the whole, holds just that set after the trace's last request"
   pub possible_is_what_min_can_hold : (places : ℕ) (calls : List LayersCall) (set : List ℕ) → distinct set ≡ true
-      → (answer : PossibleAnswer)
+      → (answer : Result PossibleAnswer Refusal)
       → (let x = layers_after_calls calls (layers_start k a places) in verdict_of answer ≡ verdict x.run x.pages x.numbers set)
-      → (answer ≡ Yes) ↔ CanHold (min_rule a) k (layers_trace calls (layers_start k a places)) set
+      → (answer ≡ Ok Yes) ↔ CanHold (min_rule a) k (layers_trace calls (layers_start k a places)) set
   -- and whatever pages follow, MIN holds no set that is answered otherwise
   pub no_other_set_is_held : (places : ℕ) (calls : List LayersCall) (set : List ℕ) → distinct set ≡ true
-      → (answer : PossibleAnswer)
+      → (answer : Result PossibleAnswer Refusal)
       → (let x = layers_after_calls calls (layers_start k a places) in verdict_of answer ≡ verdict x.run x.pages x.numbers set)
-      → (later : List ℕ) → HoldsJust (holds (min_rule a) k (layers_trace calls (layers_start k a places)) later []) set → answer ≡ Yes
+      → (later : List ℕ) → HoldsJust (holds (min_rule a) k (layers_trace calls (layers_start k a places)) later []) set → answer ≡ Ok Yes
   -- document 02, request 06: a "no" gives "the smallest i at which the set has more than i pages from L0 to Li", of the layers of the list's trace. "'Count
   -- differs' is still looked at before it", so the set has s pages, and a page that is named twice comes before both
-  pub no_names_the_lowest_layer : (places : ℕ) (calls : List LayersCall) (set : List ℕ) (answer : PossibleAnswer)
+  pub no_names_the_lowest_layer : (places : ℕ) (calls : List LayersCall) (set : List ℕ) (answer : Result PossibleAnswer Refusal)
       → (let x = layers_after_calls calls (layers_start k a places) in verdict_of answer ≡ verdict x.run x.pages x.numbers set)
       → (i : ℕ)
       → (let L = layers_after k a (layers_trace calls (layers_start k a places)) no_layers in
-      (answer ≡ BrokenAt i) ↔ ((distinct set ≡ true) × (length set ≡ L.top) × BreaksFirstAt L set i))
+      (answer ≡ Ok (BrokenAt i)) ↔ ((distinct set ≡ true) × (length set ≡ L.top) × BreaksFirstAt L set i))
   -- "for each trace that MIN accepts, the bundles it reports and the EVs it writes are each as many as its best count, and that number is
   -- the judge's answer to a file of the trace and just the schedule's bytes": to every file of it, with runs (document 02, request 03) or without
   pub min_counts_the_best_count : (trace : List ℕ) → trace_refusal k a trace 0 ≡ 0 → (counts_of k a trace).bundles ≡ best_count k a trace
@@ -82,7 +82,7 @@ pub record Compares (k a : ℕ) : Type 0 where
       → answer_number (judged file (schedule_written k a trace out)) ≡ pos (best_count k a trace)
 
 -- of a report: LRU's, oldest load's and marking's bundles are at most k/a, rounded up, times those that the layers count
-abbrev pub WithinFactor : Report → Type 0
+abbrev pub WithinFactor : ReportAnswer → Type 0
 WithinFactor r =
     (r.lru.bundles ≤ ceil_div r.k r.a * r.layers.bundles)
     × (r.fifo.bundles ≤ ceil_div r.k r.a * r.layers.bundles)
