@@ -6,8 +6,8 @@ ghost use Rattle.editions.specs.Calls.{library_requests, program_requests, conve
 ghost use Rattle.editions.specs.Editions.{old_bytes, new_bytes};
 ghost use Rattle.exports.specs.Fields.{converted_fields};
 
-use crate::store;
-use editions::Converted;
+use crate::store::length_fields;
+use lists::moves::copy;
 
 // As the library has them, with at most 65,536 requests.
 #[unsafe(no_mangle)]
@@ -15,8 +15,8 @@ pub extern "C" fn to_old(file: &[u8], bytes: &mut [u8], out: &mut [u64])
     ensures { (out.new ≡ pasted (converted_fields (converted_of old_bytes (trace_file library_requests file.now) bytes.old)) out.old)
         × (bytes.new ≡ bytes_after old_bytes (trace_file library_requests file.now) bytes.old) }
 {
-    let all = converted_fields(editions::to_old(file, bytes));
-    store::fields(&all, out);
+    let all = length_fields(editions::to_old(file, bytes));
+    copy(&all, out);
 }
 
 #[unsafe(no_mangle)]
@@ -24,8 +24,8 @@ pub extern "C" fn to_new(file: &[u8], bytes: &mut [u8], out: &mut [u64])
     ensures { (out.new ≡ pasted (converted_fields (converted_of new_bytes (trace_file library_requests file.now) bytes.old)) out.old)
         × (bytes.new ≡ bytes_after new_bytes (trace_file library_requests file.now) bytes.old) }
 {
-    let all = converted_fields(editions::to_new(file, bytes));
-    store::fields(&all, out);
+    let all = length_fields(editions::to_new(file, bytes));
+    copy(&all, out);
 }
 
 // As the programs make them, with at most 4,096.
@@ -34,8 +34,8 @@ pub extern "C" fn program_to_old(file: &[u8], bytes: &mut [u8], out: &mut [u64])
     ensures { (out.new ≡ pasted (converted_fields (converted_of old_bytes (trace_file program_requests file.now) bytes.old)) out.old)
         × (bytes.new ≡ bytes_after old_bytes (trace_file program_requests file.now) bytes.old) }
 {
-    let all = converted_fields(editions::program::to_old(file, bytes));
-    store::fields(&all, out);
+    let all = length_fields(editions::program::to_old(file, bytes));
+    copy(&all, out);
 }
 
 #[unsafe(no_mangle)]
@@ -43,12 +43,6 @@ pub extern "C" fn program_to_new(file: &[u8], bytes: &mut [u8], out: &mut [u64])
     ensures { (out.new ≡ pasted (converted_fields (converted_of new_bytes (trace_file program_requests file.now) bytes.old)) out.old)
         × (bytes.new ≡ bytes_after new_bytes (trace_file program_requests file.now) bytes.old) }
 {
-    let all = converted_fields(editions::program::to_new(file, bytes));
-    store::fields(&all, out);
-}
-
-fn converted_fields(turned: Converted) -> [u64; 2]
-    ensures { result ≡ converted_fields turned }
-{
-    [turned.refusal as u64, turned.length as u64]
+    let all = length_fields(editions::program::to_new(file, bytes));
+    copy(&all, out);
 }

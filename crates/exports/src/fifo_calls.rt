@@ -6,7 +6,8 @@ ghost use Rattle.queue.specs.Calls.{reply_of, cache_of, evicted_of, totals_of};
 ghost use Rattle.exports.specs.Records.{queue_run};
 ghost use Rattle.exports.specs.Fields.{queue_reply_fields, queue_totals_fields};
 
-use crate::{queue_fields, store};
+use crate::queue_fields;
+use lists::moves::copy;
 use queue::Run;
 
 // A request: refusal, the record's k, a, requests, loads and evictions, count, answer.
@@ -36,7 +37,7 @@ pub extern "C" fn fifo_request(
         evictions,
     };
     let all = queue_fields::reply_fields(fifo::request(run, count, cache, evicted, page));
-    store::fields(&all, out);
+    copy(&all, out);
 }
 
 // A whole trace: refusal, bundles, loads.
@@ -45,5 +46,5 @@ pub extern "C" fn fifo_over_trace(k: u32, a: u32, trace: &[u32], out: &mut [u64]
     ensures { out.new ≡ pasted (queue_totals_fields (totals_of ByLoad k a trace.now)) out.old }
 {
     let all = queue_fields::totals_fields(fifo::over_trace(k, a, trace));
-    store::fields(&all, out);
+    copy(&all, out);
 }

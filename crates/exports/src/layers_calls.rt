@@ -1,15 +1,17 @@
 // The layers, one request at a time, their questions, and over a whole trace. The record is handed over by its fields.
 ghost use Rattle.std.specs.Prelude.{◌≡◌};
 ghost use Rattle.lists.specs.Places.{pasted};
-ghost use Rattle.layers.specs.Calls.{request_reply, pages_next, numbers_next};
-ghost use Rattle.layers.specs.Questions.{revealed_reply, verdict};
-ghost use Rattle.layers.specs.Traces.{trace_totals, pages_over, numbers_over};
+ghost use Rattle.layers.specs.Calls.{layers_reply_answer, request_reply, pages_next, numbers_next};
+ghost use Rattle.layers.specs.Questions.{revealed_answer, revealed_reply, verdict};
+ghost use Rattle.layers.specs.Traces.{layers_totals_answer, trace_totals, pages_over, numbers_over};
 ghost use Rattle.exports.specs.Records.{layers_run};
 ghost use Rattle.exports.specs.Fields.{layers_reply_fields, revealed_fields, layers_totals_fields};
 ghost use Rattle.exports.specs.Cases.{verdict_fields, possible_fields};
 
-use crate::store;
-use layers::{LayersRun, PossibleAnswer};
+use crate::store::refused;
+use layers::{LayersReply, LayersRun, LayersTotals, PossibleAnswer};
+use lists::moves::copy;
+use paging::Refusal;
 
 // A request: refusal, the record's k, a, requests, evictions, s and three counts, then the rule that applied.
 #[unsafe(no_mangle)]
@@ -43,25 +45,27 @@ pub extern "C" fn layers_request(
         lifts,
     };
     let all = reply_fields(layers::request(run, pages, numbers, page));
-    store::fields(&all, out);
+    copy(&all, out);
 }
 
-fn reply_fields(reply: layers::LayersReply) -> [u64; 10]
-    ensures { result ≡ layers_reply_fields reply }
+fn reply_fields(reply: Result<LayersReply, Refusal>) -> [u64; 10]
+    ensures { result ≡ layers_reply_fields (layers_reply_answer reply) }
 {
-    let after = reply.run;
-    [
-        reply.refusal as u64,
-        after.k as u64,
-        after.a as u64,
-        after.requests as u64,
-        after.evictions as u64,
-        after.s as u64,
-        after.appends as u64,
-        after.joins as u64,
-        after.lifts as u64,
-        reply.answer as u64,
-    ]
+    match reply {
+        Ok(LayersReply { run, rule }) => [
+            0,
+            u64::from(run.k),
+            u64::from(run.a),
+            u64::from(run.requests),
+            u64::from(run.evictions),
+            u64::from(run.s),
+            u64::from(run.appends),
+            u64::from(run.joins),
+            u64::from(run.lifts),
+            u64::from(rule.number()),
+        ],
+        Err(reason) => refused(reason),
+    }
 }
 
 // How many pages are revealed: refusal, count.
@@ -93,13 +97,16 @@ pub extern "C" fn layers_revealed(
         lifts,
     };
     let all = revealed_fields(layers::revealed(run, pages, numbers));
-    store::fields(&all, out);
+    copy(&all, out);
 }
 
-fn revealed_fields(reply: layers::RevealedReply) -> [u64; 2]
-    ensures { result ≡ revealed_fields reply }
+fn revealed_fields(shown: Result<u32, Refusal>) -> [u64; 2]
+    ensures { result ≡ revealed_fields (revealed_answer shown) }
 {
-    [reply.refusal as u64, reply.count as u64]
+    match shown {
+        Ok(count) => [0, u64::from(count)],
+        Err(reason) => refused(reason),
+    }
 }
 
 // Whether a set is possible: the case of the answer, and what it holds.
@@ -132,17 +139,17 @@ pub extern "C" fn layers_possible(
         lifts,
     };
     let all = possible_fields(layers::possible(run, pages, numbers, set));
-    store::fields(&all, out);
+    copy(&all, out);
 }
 
-fn possible_fields(answer: PossibleAnswer) -> [u64; 2]
+fn possible_fields(answer: Result<PossibleAnswer, Refusal>) -> [u64; 2]
     ensures { result ≡ possible_fields answer }
 {
     match answer {
-        PossibleAnswer::Refused(number) => [0, number as u64],
-        PossibleAnswer::Yes => [1, 0],
-        PossibleAnswer::CountDiffers => [2, 0],
-        PossibleAnswer::BrokenAt(i) => [3, i as u64],
+        Ok(PossibleAnswer::Yes) => [1, 0],
+        Ok(PossibleAnswer::CountDiffers) => [2, 0],
+        Ok(PossibleAnswer::BrokenAt(i)) => [3, u64::from(i)],
+        Err(reason) => [0, u64::from(reason.number())],
     }
 }
 
@@ -162,16 +169,20 @@ pub extern "C" fn layers_over_trace(
         × (numbers.new ≡ numbers_over k a trace.now pages.old numbers.old) }
 {
     let all = totals_fields(layers::over_trace(k, a, trace, pages, numbers));
-    store::fields(&all, out);
+    copy(&all, out);
 }
 
-fn totals_fields(totals: layers::LayersTotals) -> [u64; 4]
-    ensures { result ≡ layers_totals_fields totals }
+fn totals_fields(totals: Result<LayersTotals, Refusal>) -> [u64; 4]
+    ensures { result ≡ layers_totals_fields (layers_totals_answer totals) }
 {
-    [
-        totals.refusal as u64,
-        totals.bundles as u64,
-        totals.s as u64,
-        totals.revealed as u64,
-    ]
+    match totals {
+        Ok(
+            LayersTotals {
+                bundles,
+                s,
+                revealed,
+            },
+        ) => [0, u64::from(bundles), u64::from(s), u64::from(revealed)],
+        Err(reason) => refused(reason),
+    }
 }

@@ -1,7 +1,9 @@
 // The public calls of the crates, exported to C for the tests and timings of the repository. Each call stores the fields of its answer into the
 // first places of `out`, as many as there is room for, and leaves the other lent lists as the call behind it leaves them. None asks for anything
 // of its caller. specs/Fields.antt has the fields of each answer that is a record, specs/Cases.antt those of each answer that is an enum.
-//   store         how fields are stored
+// C has no generic function and lends lists and numbers one by one: so each call has a name and a body of its own, and a record is put together from its
+// fields where it is lent, by a literal that names them. A length becomes a u64 by `as`, since usize has no `From` into u64.
+//   store         the fields of a refusal, and of an answer that is a length
 //   sizes         k and a
 //   lru_calls     least recent use, a request and a trace
 //   fifo_calls    oldest load first, the same

@@ -2,15 +2,17 @@
 // layers' record in it.
 ghost use Rattle.std.specs.Prelude.{◌≡◌};
 ghost use Rattle.lists.specs.Places.{pasted};
-ghost use Rattle.mark.specs.Calls.{reply_of, lent_after};
+ghost use Rattle.mark.specs.Calls.{mark_reply_answer, reply_of, lent_after};
 ghost use Rattle.mark.specs.Lent.{lent};
-ghost use Rattle.mark.specs.Traces.{table_with, totals_of, table_over};
+ghost use Rattle.mark.specs.Traces.{mark_totals_answer, table_with, totals_of, table_over};
 ghost use Rattle.exports.specs.Records.{layers_run, mark_run};
 ghost use Rattle.exports.specs.Fields.{mark_reply_fields, mark_totals_fields};
 
-use crate::store;
+use crate::store::refused;
 use layers::LayersRun;
-use mark::MarkRun;
+use lists::moves::copy;
+use mark::{MarkReply, MarkRun, MarkTotals};
+use paging::Refusal;
 
 // A request: refusal, the record's k, a, requests, loads, evictions and t, the layers' k, a, requests, evictions, s and three counts, then the number of
 // cached pages, and 0 for a hit, 1 for a load, 2 for a load after a bundle.
@@ -72,33 +74,40 @@ pub extern "C" fn mark_request(
         run, count, cache, marks, priorities, evicted, pages, numbers, times, page,
     );
     let all = reply_fields(reply);
-    store::fields(&all, out);
+    copy(&all, out);
 }
 
-fn reply_fields(reply: mark::MarkReply) -> [u64; 17]
-    ensures { result ≡ mark_reply_fields reply }
+fn reply_fields(reply: Result<MarkReply, Refusal>) -> [u64; 17]
+    ensures { result ≡ mark_reply_fields (mark_reply_answer reply) }
 {
-    let after = reply.run;
-    let layers = after.layers;
-    [
-        reply.refusal as u64,
-        after.k as u64,
-        after.a as u64,
-        after.requests as u64,
-        after.loads as u64,
-        after.evictions as u64,
-        after.t as u64,
-        layers.k as u64,
-        layers.a as u64,
-        layers.requests as u64,
-        layers.evictions as u64,
-        layers.s as u64,
-        layers.appends as u64,
-        layers.joins as u64,
-        layers.lifts as u64,
-        reply.count as u64,
-        reply.answer as u64,
-    ]
+    match reply {
+        Ok(
+            MarkReply {
+                run,
+                count,
+                outcome,
+            },
+        ) => [
+            0,
+            u64::from(run.k),
+            u64::from(run.a),
+            u64::from(run.requests),
+            u64::from(run.loads),
+            u64::from(run.evictions),
+            u64::from(run.t),
+            u64::from(run.layers.k),
+            u64::from(run.layers.a),
+            u64::from(run.layers.requests),
+            u64::from(run.layers.evictions),
+            u64::from(run.layers.s),
+            u64::from(run.layers.appends),
+            u64::from(run.layers.joins),
+            u64::from(run.layers.lifts),
+            u64::from(count),
+            u64::from(outcome.number()),
+        ],
+        Err(reason) => refused(reason),
+    }
 }
 
 // A whole trace, into a layer table that is all unused, with t0 beside it: refusal, bundles, loads.
@@ -118,15 +127,14 @@ pub extern "C" fn mark_over_trace(
         × (left ≡ table_over k a trace.now before) }
 {
     let all = totals_fields(mark::over_trace(k, a, trace, pages, numbers, times));
-    store::fields(&all, out);
+    copy(&all, out);
 }
 
-fn totals_fields(totals: mark::MarkTotals) -> [u64; 3]
-    ensures { result ≡ mark_totals_fields totals }
+fn totals_fields(totals: Result<MarkTotals, Refusal>) -> [u64; 3]
+    ensures { result ≡ mark_totals_fields (mark_totals_answer totals) }
 {
-    [
-        totals.refusal as u64,
-        totals.bundles as u64,
-        totals.loads as u64,
-    ]
+    match totals {
+        Ok(MarkTotals { bundles, loads }) => [0, u64::from(bundles), u64::from(loads)],
+        Err(reason) => refused(reason),
+    }
 }

@@ -1,10 +1,14 @@
 // Farthest next use over a whole trace.
 ghost use Rattle.std.specs.Prelude.{◌≡◌};
 ghost use Rattle.lists.specs.Places.{pasted};
+ghost use Rattle.min.specs.Answers.{counts_answer, scheduled_answer};
 ghost use Rattle.min.specs.Calls.{counts_of, scheduled_of, bytes_of};
 ghost use Rattle.exports.specs.Fields.{counts_fields, scheduled_fields};
 
-use crate::store;
+use crate::store::refused;
+use lists::moves::copy;
+use min::{Counts, Scheduled};
+use paging::Refusal;
 
 // Its counts: refusal, bundles, loads.
 #[unsafe(no_mangle)]
@@ -12,17 +16,16 @@ pub extern "C" fn min_count(k: u32, a: u32, trace: &[u32], out: &mut [u64])
     ensures { out.new ≡ pasted (counts_fields (counts_of k a trace.now)) out.old }
 {
     let all = counts_fields(min::count(k, a, trace));
-    store::fields(&all, out);
+    copy(&all, out);
 }
 
-fn counts_fields(counts: min::Counts) -> [u64; 3]
-    ensures { result ≡ counts_fields counts }
+fn counts_fields(counts: Result<Counts, Refusal>) -> [u64; 3]
+    ensures { result ≡ counts_fields (counts_answer counts) }
 {
-    [
-        counts.refusal as u64,
-        counts.bundles as u64,
-        counts.loads as u64,
-    ]
+    match counts {
+        Ok(Counts { bundles, loads }) => [0, u64::from(bundles), u64::from(loads)],
+        Err(reason) => refused(reason),
+    }
 }
 
 // Its schedule, in the first of the lent bytes: refusal, bundles, loads, length.
@@ -32,16 +35,20 @@ pub extern "C" fn min_schedule(k: u32, a: u32, trace: &[u32], bytes: &mut [u8], 
         × (bytes.new ≡ bytes_of k a trace.now bytes.old) }
 {
     let all = scheduled_fields(min::schedule(k, a, trace, bytes));
-    store::fields(&all, out);
+    copy(&all, out);
 }
 
-fn scheduled_fields(scheduled: min::Scheduled) -> [u64; 4]
-    ensures { result ≡ scheduled_fields scheduled }
+fn scheduled_fields(scheduled: Result<Scheduled, Refusal>) -> [u64; 4]
+    ensures { result ≡ scheduled_fields (scheduled_answer scheduled) }
 {
-    [
-        scheduled.refusal as u64,
-        scheduled.bundles as u64,
-        scheduled.loads as u64,
-        scheduled.length as u64,
-    ]
+    match scheduled {
+        Ok(
+            Scheduled {
+                bundles,
+                loads,
+                length,
+            },
+        ) => [0, u64::from(bundles), u64::from(loads), length as u64],
+        Err(reason) => refused(reason),
+    }
 }

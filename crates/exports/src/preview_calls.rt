@@ -6,7 +6,8 @@ ghost use Rattle.queue.specs.Calls.{reply_of, evicted_of};
 ghost use Rattle.exports.specs.Records.{queue_run};
 ghost use Rattle.exports.specs.Fields.{queue_reply_fields};
 
-use crate::{queue_fields, store};
+use crate::queue_fields;
+use lists::moves::copy;
 use queue::Run;
 
 // Least recent use: refusal, the copy's k, a, requests, loads and evictions, count, answer.
@@ -35,7 +36,7 @@ pub extern "C" fn lru_preview(
         evictions,
     };
     let all = queue_fields::reply_fields(least_recent::preview(run, count, cache, evicted, page));
-    store::fields(&all, out);
+    copy(&all, out);
 }
 
 // Oldest load first, the same: refusal, the copy's k, a, requests, loads and evictions, count, answer.
@@ -64,5 +65,5 @@ pub extern "C" fn fifo_preview(
         evictions,
     };
     let all = queue_fields::reply_fields(fifo::preview(run, count, cache, evicted, page));
-    store::fields(&all, out);
+    copy(&all, out);
 }

@@ -1,48 +1,29 @@
-// How an answer is handed over: its fields, one after the other, in the first places of lent numbers.
-ghost use Rattle.std.specs.Prelude.{◌≡◌, ◌++◌, ◌≤◌, length, take, drop};
-ghost use Rattle.lists.specs.Places.{pasted};
+// How a refusal is handed over, and an answer that is a length.
+ghost use Rattle.std.specs.Prelude.{◌≡◌, ◌∷◌, ◌-◌, ◌<◌, replicate};
+ghost use Rattle.editions.specs.Calls.{converted_answer};
+ghost use Rattle.exports.specs.Cases.{written_fields};
+ghost use Rattle.exports.specs.Fields.{converted_fields};
+ghost use Rattle.paging.specs.Numbers.{number_of};
 
-// As many fields as there is room for.
-pub(crate) fn fields(fields: &[u64], out: &mut [u64])
-    ensures { out.new ≡ pasted fields.now out.old }
+use paging::Refusal;
+
+// A refusal's number, and zeros behind it.
+pub(crate) fn refused<const N: usize>(reason: Refusal) -> [u64; N]
+    requires { 0 < N }
+    ensures { result ≡ number_of reason ∷ replicate (N - 1) 0 }
 {
-    if fields.len() <= out.len() {
-        put(fields, out, fields.len());
-    } else {
-        put(fields, out, out.len());
-    }
+    let mut fields = [0; N];
+    fields[0] = u64::from(reason.number());
+    fields
 }
 
-// The first n fields into the first n places.
-fn put(fields: &[u64], out: &mut [u64], n: usize)
-    requires { (n ≤ length fields.now) × (n ≤ length out.old) }
-    ensures { out.new ≡ take n fields.now ++ drop n out.old }
+// 0 and the length, or the offset behind a record; for a refusal its number and 0. The editions and the writers answer alike.
+pub(crate) fn length_fields(answer: Result<usize, Refusal>) -> [u64; 2]
+    ensures edition { result ≡ converted_fields (converted_answer answer) }
+    ensures writer { result ≡ written_fields answer }
 {
-    let mut i = 0;
-    while i < n {
-        out[i] = fields[i];
-        i += 1;
-    }
-}
-
-// The same for bytes.
-pub(crate) fn bytes(from: &[u8], to: &mut [u8])
-    ensures { to.new ≡ pasted from.now to.old }
-{
-    if from.len() <= to.len() {
-        put_bytes(from, to, from.len());
-    } else {
-        put_bytes(from, to, to.len());
-    }
-}
-
-fn put_bytes(from: &[u8], to: &mut [u8], n: usize)
-    requires { (n ≤ length from.now) × (n ≤ length to.old) }
-    ensures { to.new ≡ take n from.now ++ drop n to.old }
-{
-    let mut i = 0;
-    while i < n {
-        to[i] = from[i];
-        i += 1;
+    match answer {
+        Ok(length) => [0, length as u64],
+        Err(reason) => [u64::from(reason.number()), 0],
     }
 }

@@ -6,6 +6,6 @@ use Rattle.exports.proofs.mark_calls.mark_request.Goals as goal
 pub returns : goal.returns
 returns c =
     let call = c.request-reply in (
-      stored mark_reply_fields c.args.out.now c.fields.ensures c.reply_fields-all.ensures call.ensures.0,
+      stored mark_reply_fields c.args.out.now c.copy.ensures c.reply_fields-all.ensures call.ensures.0,
       call.ensures.1,
     )

@@ -1,9 +1,0 @@
--- `write_rr` meets its contract: the fields of the answer are stored, and lent lists are as the call leaves them.
-use Rattle.exports.proofs.Stored.{stored}
-use Rattle.exports.specs.Cases.{wrote_fields}
-use Rattle.exports.proofs.writer_calls.write_rr.Goals as goal
-
-pub returns : goal.returns
-returns c =
-    let call = c.rr in
-    (stored wrote_fields c.args.out.now c.fields.ensures c.written_fields-all.ensures call.ensures.0, call.ensures.1)
