@@ -2,17 +2,18 @@
 // All that matters is in the crate `report`.
 #![tactic(auto)]
 
-use report::{PolicyFigures, Report};
+use paging::Totals;
+use report::Report;
 use std::io::Stdout;
 use streams::Output;
 
 type Lines = Output<Stdout, HostRuntime>;
 
 // A policy's line.
-fn policy(out: Lines, name: &[u8], counts: PolicyFigures) -> Lines {
+fn policy(out: Lines, name: &[u8], totals: Totals) -> Lines {
     out.text(name)
-        .field(counts.bundles)
-        .field(counts.loads)
+        .field(totals.bundles)
+        .field(totals.loads)
         .end_line()
 }
 

@@ -5,12 +5,13 @@
 #![tactic(auto)]
 
 ghost use Rattle.std.specs.Prelude.{◌≡◌};
+ghost use Rattle.paging.specs.Numbers.{totals_answer};
 ghost use Rattle.paging.specs.declared.Keeping.TheVariants.{ByLoad};
-ghost use Rattle.queue.specs.Answers.{reply_answer, totals_answer};
+ghost use Rattle.queue.specs.Answers.{reply_answer};
 ghost use Rattle.queue.specs.Calls.{reply_of, cache_of, evicted_of, totals_of};
 
-use paging::{Keeping, Refusal};
-use queue::{Reply, Run, Totals};
+use paging::{Keeping, Refusal, Totals};
+use queue::{Reply, Run};
 
 // One request. The evicted list receives a bundle, oldest load first.
 pub fn request(

@@ -19,7 +19,7 @@ mod trace;
 
 // The layers' record: the sizes, the requests and bundles counted, s, the number of the last layer, and how often each rule applied: 1a
 // appends, 1b joins, 1c lifts.
-#[derive(Clone, Copy)]
+#[derive(Clone, Copy, Debug, PartialEq, Eq)]
 pub struct LayersRun {
     pub k: u32,
     pub a: u32,
@@ -77,7 +77,7 @@ impl LayersRun {
 }
 
 // An accepted request's answer: the new record and the rule that applied.
-#[derive(Clone, Copy)]
+#[derive(Clone, Copy, Debug, PartialEq, Eq)]
 pub struct LayersReply {
     pub run: LayersRun,
     pub rule: RuleApplied,
@@ -93,7 +93,7 @@ pub enum PossibleAnswer {
 }
 
 // The layers over a whole trace: bundles, s and revealed pages.
-#[derive(Clone, Copy)]
+#[derive(Clone, Copy, Debug, PartialEq, Eq)]
 pub struct LayersTotals {
     pub bundles: u32,
     pub s: u32,

@@ -23,7 +23,7 @@ use Rattle.layers.proofs.Steps.{no_overflow}
 use Rattle.marking.specs.Marking.{mark_bundles, mark_loads}
 use Rattle.marking.specs.Rdm.{rdm}
 use Rattle.mark.specs.Traces.{Table, table_with, all_zero, early_refusal, over_refusal, totals_of, table_over, OverTrace}
-use Rattle.mark.specs.declared.MarkTotals.{MarkTotals}
+use Rattle.paging.specs.declared.outcomes.Totals.{Totals}
 use Rattle.mark.specs.inner.Over.{TraceReady, AllServed, ServedOver}
 use Rattle.paging.proofs.Numbers.{number_above}
 
@@ -163,7 +163,7 @@ module _ (k a : ℕ) (trace : List ℕ) (x : Table) where
               ∙ ap (λ (n : ℕ). replicate n 0) (begins k a trace x 0 (sym z)).0.times_even;
         }
 
-    module _ (left : Table) (r : Option MarkTotals) (told : ServedOver k a trace x left r) where
+    module _ (left : Table) (r : Option Totals) (told : ServedOver k a trace x left r) where
       refusal_is : over_refusal k a trace x ≡ refuse (is_none r) 10 0
       refusal_is =
           begun k a trace x (begins k a trace x 0 (sym z)).0 _ ∙ ap (λ (b : Bool). refuse b 10 0) (sym told.full_told)
@@ -182,7 +182,7 @@ module _ (k a : ℕ) (trace : List ℕ) (x : Table) where
         let t = refused_over TableFull (refusal_is left None told) in
         (t.0, same ∙ t.1)
 
-    pub over_done : (left : Table) (totals : MarkTotals) → ServedOver k a trace x left (Some totals) → OverTrace k a trace x (Ok totals) left
+    pub over_done : (left : Table) (totals : Totals) → ServedOver k a trace x left (Some totals) → OverTrace k a trace x (Ok totals) left
     unfolding totals_of table_over
     over_done left totals told =
         let none : over_refusal k a trace x ≡ 0 = refusal_is left (Some totals) told in

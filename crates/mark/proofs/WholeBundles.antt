@@ -29,7 +29,7 @@ use Rattle.mark.specs.Traces.{Table, table_with}
 use Rattle.mark.specs.declared.serving.Advanced.{Advanced}
 use Rattle.mark.specs.declared.serving.Point.{Point}
 use Rattle.mark.specs.declared.serving.TablePoint.{TablePoint}
-use Rattle.mark.specs.declared.MarkTotals.{MarkTotals}
+use Rattle.paging.specs.declared.outcomes.Totals.{Totals}
 use Rattle.mark.specs.inner.Over.{TraceReady, ServedOver}
 use Rattle.mark.specs.inner.Stepping.{TableReady, AdvancedBy, AdvancedTo, held_at}
 use Rattle.mark.proofs.Stepping.{stepped_full, stepped_served}
@@ -146,5 +146,5 @@ module _ (k : ℕ) (trace : List ℕ) (places i bundles loads : ℕ) (at : Table
 pub whole_ready : (k a : ℕ) (trace : List ℕ) (x : Table) → a ≡ k → TraceReady k a trace x → TraceReady k k trace x
 whole_ready k a trace x e R = subst (λ n. TraceReady k n trace x) e R
 
-pub whole_served : (k a : ℕ) (trace : List ℕ) (x left : Table) (r : Option MarkTotals) → a ≡ k → ServedOver k k trace x left r → ServedOver k a trace x left r
+pub whole_served : (k a : ℕ) (trace : List ℕ) (x left : Table) (r : Option Totals) → a ≡ k → ServedOver k k trace x left r → ServedOver k a trace x left r
 whole_served k a trace x left r e told = subst (λ n. ServedOver k n trace x left r) (sym e) told

@@ -1,7 +1,7 @@
 -- Marking with RDM over a whole lent trace, from the empty buffer and into a lent layer table that is all unused, with t0 beside it.
-use Rattle.std.specs.Prelude.{ℕ, Bool, true, not, List, [], ◌∷◌, Result, Ok, Err, ◌≡◌, eqb, length}
+use Rattle.std.specs.Prelude.{ℕ, Bool, true, not, List, [], ◌∷◌, Result, ◌≡◌, eqb, length}
 use Rattle.lists.specs.Choice.{pick, ◌and◌, ◌or◌}
-use Rattle.paging.specs.Numbers.{number_of}
+use Rattle.paging.specs.Numbers.{TotalsAnswer, totals_answer}
 use Rattle.paging.specs.Refusals.{refuse, trace_refusal}
 use Rattle.paging.specs.Rows.{numbers_of, pages_of, table_of}
 use Rattle.paging.specs.Table.{nothing_yet, tabled_after}
@@ -10,7 +10,7 @@ use Rattle.layers.specs.Traces.{overflows}
 use Rattle.marking.specs.Marking.{mark_bundles, mark_loads}
 use Rattle.marking.specs.Rdm.{no_clock, clock_after, rdm}
 use Rattle.mark.specs.Lent.{times_of}
-use Rattle.mark.specs.declared.MarkTotals.{MarkTotals}
+use Rattle.paging.specs.declared.outcomes.Totals.{Totals}
 
 -- the layer table and t0 beside it
 pub record Table : Type 0 where
@@ -37,26 +37,15 @@ early_refusal k a trace x rest =
 abbrev pub over_refusal : (k a : ℕ) → (trace : List ℕ) → Table → ℕ
 over_refusal k a trace x = early_refusal k a trace x (refuse (overflows k a (length x.pages) trace nothing_yet) 10 0)
 
--- what the call answers by number: a refusal, or bundles and loads
-pub record MarkTotalsAnswer : Type 0 where
-  pub refusal : ℕ
-  pub bundles : ℕ
-  pub loads : ℕ
-
-abbrev pub refused_totals : (number : ℕ) → MarkTotalsAnswer
+abbrev pub refused_totals : (number : ℕ) → TotalsAnswer
 refused_totals number = record { refusal = number; bundles = 0; loads = 0 }
 
 -- bundles and loads; a refusal is its number, and zero in every other field
-unfoldable pub totals_of : (k a : ℕ) → (trace : List ℕ) → Table → MarkTotalsAnswer
+unfoldable pub totals_of : (k a : ℕ) → (trace : List ℕ) → Table → TotalsAnswer
 totals_of k a trace x =
     pick (eqb (over_refusal k a trace x) 0)
     (record { refusal = 0; bundles = mark_bundles (rdm k a) k a trace; loads = mark_loads (rdm k a) k a trace })
     (refused_totals (over_refusal k a trace x))
-
--- what the code's answer says
-abbrev pub mark_totals_answer : Result MarkTotals Refusal → MarkTotalsAnswer
-mark_totals_answer (Ok t) = record { refusal = 0; bundles = t.bundles; loads = t.loads }
-mark_totals_answer (Err reason) = refused_totals (number_of reason)
 
 -- the table of the layers after the trace, and t0 beside it
 abbrev pub table_after : (k a : ℕ) → (trace : List ℕ) → (places : ℕ) → Table
@@ -69,5 +58,5 @@ unfoldable pub table_over : (k a : ℕ) → (trace : List ℕ) → Table → Tab
 table_over k a trace x = pick (eqb (over_refusal k a trace x) 0) (table_after k a trace (length x.pages)) x
 
 -- the promise of the call: its answer, and the three lists as it leaves them
-abbrev pub OverTrace : (k a : ℕ) → (trace : List ℕ) → Table → Result MarkTotals Refusal → Table → Type 0
-OverTrace k a trace x totals left = (mark_totals_answer totals ≡ totals_of k a trace x) × (left ≡ table_over k a trace x)
+abbrev pub OverTrace : (k a : ℕ) → (trace : List ℕ) → Table → Result Totals Refusal → Table → Type 0
+OverTrace k a trace x totals left = (totals_answer totals ≡ totals_of k a trace x) × (left ≡ table_over k a trace x)

@@ -10,14 +10,14 @@ ghost use Rattle.mark.specs.Traces.{table_with, OverTrace};
 use crate::refusing::LentLists;
 use crate::serving::{Point, TablePoint};
 use layers::LayersRun;
-use paging::{Outcome, Refusal, Sizes};
+use paging::{Outcome, Refusal, Sizes, Totals};
 
 mod refusing;
 mod serving;
 mod trace;
 
 // The record: the sizes, the requests, loads and bundles counted, the time t, and the layers' record.
-#[derive(Clone, Copy)]
+#[derive(Clone, Copy, Debug, PartialEq, Eq)]
 pub struct MarkRun {
     pub k: u32,
     pub a: u32,
@@ -53,7 +53,7 @@ impl MarkRun {
 }
 
 // What an accepted request answers: the new record and count, and what the request did.
-#[derive(Clone, Copy)]
+#[derive(Clone, Copy, Debug, PartialEq, Eq)]
 pub struct MarkReply {
     pub run: MarkRun,
     pub count: u32,
@@ -108,13 +108,6 @@ pub fn request(
     Ok(serving::answered(run, stepped))
 }
 
-// A whole trace: bundles and loads.
-#[derive(Clone, Copy)]
-pub struct MarkTotals {
-    pub bundles: u32,
-    pub loads: u32,
-}
-
 // Marking over a whole trace, into a layer table that is all unused, with t0 beside it. No request is checked: the state is proved to stay as it must.
 pub fn over_trace(
     k: u32,
@@ -123,7 +116,7 @@ pub fn over_trace(
     pages: &mut [u32],
     numbers: &mut [u32],
     times: &mut [u32],
-) -> Result<MarkTotals, Refusal>
+) -> Result<Totals, Refusal>
     ensures { OverTrace k a trace.now (table_with pages.old numbers.old times.old) result
         (table_with pages.new numbers.new times.new) }
 {

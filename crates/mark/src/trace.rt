@@ -5,8 +5,8 @@ ghost use Rattle.mark.specs.Traces.{all_zero, early_refusal, table_with};
 ghost use Rattle.mark.specs.inner.Over.{TraceReady, ServedOver};
 
 use crate::serving::{Point, TablePoint};
-use crate::{MarkRun, MarkTotals, serving};
-use paging::{Refusal, Sizes};
+use crate::{MarkRun, serving};
+use paging::{Refusal, Sizes, Totals};
 
 // Whether every place holds zero. The whole list is looked at, several places at once.
 fn all_zero(list: &[u32]) -> bool
@@ -48,7 +48,7 @@ fn serve_buffered(
     pages: &mut [u32],
     numbers: &mut [u32],
     times: &mut [u32],
-) -> Option<MarkTotals>
+) -> Option<Totals>
     requires { TraceReady k a trace.now (table_with pages.old numbers.old times.old) }
     ensures { ServedOver k a trace.now (table_with pages.old numbers.old times.old)
         (table_with pages.new numbers.new times.new) result }
@@ -84,7 +84,7 @@ fn serve_buffered(
         loads += stepped.outcome.loads();
         point = stepped.after;
     }
-    Some(MarkTotals { bundles, loads })
+    Some(Totals { bundles, loads })
 }
 
 // The same where a = k. A bundle then takes all k pages, so that the cached pages are those that have a row in the table: no buffer is kept, and the layers'
@@ -95,7 +95,7 @@ fn serve_whole_bundles(
     pages: &mut [u32],
     numbers: &mut [u32],
     times: &mut [u32],
-) -> Option<MarkTotals>
+) -> Option<Totals>
     requires { TraceReady k k trace.now (table_with pages.old numbers.old times.old) }
     ensures { ServedOver k k trace.now (table_with pages.old numbers.old times.old)
         (table_with pages.new numbers.new times.new) result }
@@ -115,7 +115,7 @@ fn serve_whole_bundles(
         loads += outcome.loads();
         point = moved.after;
     }
-    Some(MarkTotals { bundles, loads })
+    Some(Totals { bundles, loads })
 }
 
 // Serves a trace on a table that is all unused.
@@ -126,7 +126,7 @@ pub(crate) fn serve_all(
     pages: &mut [u32],
     numbers: &mut [u32],
     times: &mut [u32],
-) -> Option<MarkTotals>
+) -> Option<Totals>
     requires { TraceReady k a trace.now (table_with pages.old numbers.old times.old) }
     ensures { ServedOver k a trace.now (table_with pages.old numbers.old times.old)
         (table_with pages.new numbers.new times.new) result }

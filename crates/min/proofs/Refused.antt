@@ -1,7 +1,7 @@
 -- Refusals 1, 2 and 3: the first condition that holds decides, and what is known where none holds.
 use Rattle.std.specs.Prelude.{Ok, Err}
 use Rattle.paging.proofs.Numbers.{number_above}
-use Rattle.paging.specs.Numbers.{number_of}
+use Rattle.paging.specs.Numbers.{number_of, totals_answer}
 use Rattle.paging.specs.declared.reasons.Refusal.{Refusal}
 use Rattle.paging.specs.declared.reasons.Refusal.TheVariants.{TooLittleRoom}
 use Prim.Native.Nat.{ℕ, zero, suc, ◌≤◌, ◌<◌}
@@ -13,9 +13,9 @@ use borrow.Author.Tests.{lt-ltb, le-ltb, eqb-false}
 use Rattle.paging.specs.Min.{best_count, min_loads}
 use Rattle.paging.specs.Refusals.{trace_refusal}
 use Rattle.paging.proofs.Refusals.{trace_right, trace_fall, trace_pass}
-use Rattle.min.specs.Answers.{ScheduledAnswer, counts_answer, scheduled_answer}
+use Rattle.min.specs.Answers.{ScheduledAnswer, scheduled_answer}
 use Rattle.min.specs.Calls.{counts_by, counts_of, min_schedule, bytes_refusal, scheduled_by, bytes_by, scheduled_of, bytes_of}
-use Rattle.min.specs.declared.Counts.{Counts}
+use Rattle.paging.specs.declared.outcomes.Totals.{Totals}
 use Rattle.min.specs.inner.Run.{Accepted}
 
 -- where nothing is refused, the sizes are right and the trace is short enough
@@ -29,11 +29,11 @@ counts_number zero k a trace z = absurd (z refl)
 counts_number (suc n) k a trace z = refl
 
 pub counts_refused : (k a : ℕ) (trace : List ℕ) (reason : Refusal) → number_of reason ≡ trace_refusal k a trace 0
-    → counts_answer (Err reason) ≡ counts_of k a trace
+    → totals_answer (Err reason) ≡ counts_of k a trace
 counts_refused k a trace reason e = rw (← e) (counts_number (number_of reason) k a trace (number_above reason))
 
-pub counts_served : (k a : ℕ) (trace : List ℕ) (counts : Counts) → 0 ≡ trace_refusal k a trace 0 → counts.bundles ≡ best_count k a trace
-    → counts.loads ≡ min_loads k a trace → counts_answer (Ok counts) ≡ counts_of k a trace
+pub counts_served : (k a : ℕ) (trace : List ℕ) (counts : Totals) → 0 ≡ trace_refusal k a trace 0 → counts.bundles ≡ best_count k a trace
+    → counts.loads ≡ min_loads k a trace → totals_answer (Ok counts) ≡ counts_of k a trace
 counts_served k a trace counts z e f = rw (← z, e, f) refl
 
 scheduled_refused : (n k a : ℕ) (trace out : List ℕ) → (n ≡ 0 → ⊥)

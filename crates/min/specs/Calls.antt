@@ -1,18 +1,19 @@
 -- What MIN's calls answer (document 01, "MIN" and "Who can cause a refusal"), by the refusal's number: 0 stands for none, and a
 -- refusal is zero in every other field.
 use Rattle.std.specs.Prelude.{ℕ, zero, suc, List, [], ◌++◌, ltb, length, take, drop}
+use Rattle.paging.specs.Numbers.{TotalsAnswer}
 use Rattle.paging.specs.Min.{min_rule, best_count, min_loads}
 use Rattle.paging.specs.Policy.{bundles}
 use Rattle.paging.specs.Refusals.{refuse, trace_refusal}
 use Rattle.records.specs.Bytes.{schedule_bytes}
-use Rattle.min.specs.Answers.{CountsAnswer, ScheduledAnswer}
+use Rattle.min.specs.Answers.{ScheduledAnswer}
 
-abbrev pub counts_by : (number k a : ℕ) → (trace : List ℕ) → CountsAnswer
+abbrev pub counts_by : (number k a : ℕ) → (trace : List ℕ) → TotalsAnswer
 counts_by zero k a trace = record { refusal = 0; bundles = best_count k a trace; loads = min_loads k a trace }
 counts_by (suc n) k a trace = record { refusal = suc n; bundles = 0; loads = 0 }
 
 -- the answer of the call that counts
-abbrev pub counts_of : (k a : ℕ) → (trace : List ℕ) → CountsAnswer
+abbrev pub counts_of : (k a : ℕ) → (trace : List ℕ) → TotalsAnswer
 counts_of k a trace = counts_by (trace_refusal k a trace 0) k a trace
 
 -- The schedule that MIN writes: the file of a KA and an EV for each of its bundles

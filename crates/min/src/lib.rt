@@ -2,23 +2,17 @@
 #![tactic(auto)]
 
 ghost use Rattle.std.specs.Prelude.{◌≡◌};
-ghost use Rattle.min.specs.Answers.{counts_answer, scheduled_answer};
+ghost use Rattle.paging.specs.Numbers.{totals_answer};
+ghost use Rattle.min.specs.Answers.{scheduled_answer};
 ghost use Rattle.min.specs.Calls.{counts_of, scheduled_of, bytes_of};
 
 use crate::run::Pass;
-use paging::{Refusal, Sizes};
+use paging::{Refusal, Sizes, Totals};
 
 mod run;
 mod write;
 
-// The bundles and loads of farthest next use.
-#[derive(Clone, Copy, Debug, PartialEq, Eq)]
-pub struct Counts {
-    pub bundles: u32,
-    pub loads: u32,
-}
-
-// The same with the length of the schedule that was written, in bytes.
+// The bundles and loads of farthest next use, and the length of the schedule that was written, in bytes.
 #[derive(Clone, Copy, Debug, PartialEq, Eq)]
 pub struct Scheduled {
     pub bundles: u32,
@@ -28,8 +22,8 @@ pub struct Scheduled {
 
 // The bundles and loads of farthest next use over the trace.
 #[tactic(auto, using(crate::proofs::Refused::count_rules))]
-pub fn count(k: u32, a: u32, trace: &[u32]) -> Result<Counts, Refusal>
-    ensures { counts_answer result ≡ counts_of k a trace.now }
+pub fn count(k: u32, a: u32, trace: &[u32]) -> Result<Totals, Refusal>
+    ensures { totals_answer result ≡ counts_of k a trace.now }
 {
     Sizes { k, a }.check_trace(trace)?;
     let mut lefts = [0u32; Sizes::TRACE_MAX];

@@ -6,9 +6,8 @@ ghost use Rattle.paging.specs.Policy.{is_bundled, is_load};
 ghost use Rattle.keys.specs.Keys.{key, kind_in, kinds_of};
 ghost use Rattle.min.specs.inner.Run.{Accepted, PassReady};
 
-use crate::Counts;
 use keys::Held;
-use paging::Outcome;
+use paging::{Outcome, Totals};
 
 // What a pass goes over: a trace with the left of each request, for sizes that are not refused.
 #[derive(Clone, Copy)]
@@ -51,7 +50,7 @@ impl<'a> Pass<'a> {
     // How many bundles and loads it makes. write::put_bundles is the same pass with EVs in place of counts. They are two, since no byte is written
     // before the counts have told that the bytes suffice, and since a proof knows nothing of what a closure would write into the lent bytes; a request
     // is read alike in both, by `asked` and `serve`.
-    pub(crate) fn counts(self) -> Counts
+    pub(crate) fn counts(self) -> Totals
         ensures { (result.bundles ≡ count is_bundled (kinds_of self.entry.k self.entry.a self.entry.trace.now []))
             × (result.loads ≡ count is_load (kinds_of self.entry.k self.entry.a self.entry.trace.now [])) }
     {
@@ -64,6 +63,6 @@ impl<'a> Pass<'a> {
             bundles += outcome.bundles();
             loads += outcome.loads();
         }
-        Counts { bundles, loads }
+        Totals { bundles, loads }
     }
 }

@@ -3,6 +3,7 @@ use Rattle.std.specs.Prelude.{ℕ, Result, Ok, Err}
 use Rattle.paging.specs.Policy.{Kind, hit, load, bundled}
 use Rattle.paging.specs.declared.outcomes.Outcome.{Outcome}
 use Rattle.paging.specs.declared.outcomes.Outcome.TheVariants.{Hit, Load, LoadAfterBundle}
+use Rattle.paging.specs.declared.outcomes.Totals.{Totals}
 use Rattle.paging.specs.declared.reasons.Refusal.{Refusal}
 use Rattle.paging.specs.declared.reasons.Refusal.TheVariants.{BufferSize, BundleSize, TraceTooLong, WrongMark, CutShort, WrongRecord, TooManyHeld, TooLittleRoom, IllFormed, TableFull, PageTwice, CounterFull, EmptyRun}
 
@@ -30,3 +31,13 @@ abbrev pub kind_of_outcome : Outcome → Kind
 kind_of_outcome Hit = hit
 kind_of_outcome Load = load
 kind_of_outcome LoadAfterBundle = bundled
+
+-- What a call over a whole trace answers by number: bundles and loads beside 0, or a refusal's number beside zeros
+pub record TotalsAnswer : Type 0 where
+  pub refusal : ℕ
+  pub bundles : ℕ
+  pub loads : ℕ
+
+abbrev pub totals_answer : Result Totals Refusal → TotalsAnswer
+totals_answer (Ok totals) = record { refusal = 0; bundles = totals.bundles; loads = totals.loads }
+totals_answer (Err reason) = record { refusal = number_of reason; bundles = 0; loads = 0 }

@@ -9,7 +9,7 @@ ghost use Rattle.paging.specs.Refusals.{sizes_refusal, trace_refusal};
 mod outcomes;
 mod reasons;
 
-pub use crate::outcomes::Outcome;
+pub use crate::outcomes::{Outcome, Totals};
 pub use crate::reasons::Refusal;
 
 // The largest number of a counter, which has 32 bits. The records that count have it as a constant of their own.

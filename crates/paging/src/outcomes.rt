@@ -1,4 +1,4 @@
-// What a request did. Document 01 answers it by number.
+// What a request did, which document 01 answers by number; and what the requests of a trace come to.
 ghost use Rattle.std.specs.Prelude.{◌≡◌};
 ghost use Rattle.paging.specs.Numbers.{kind_of_outcome};
 ghost use Rattle.lists.specs.Pages.{bit};
@@ -38,4 +38,11 @@ impl Outcome {
     {
         u32::from(self == Outcome::LoadAfterBundle)
     }
+}
+
+// What a policy comes to over a trace.
+#[derive(Clone, Copy, Debug, PartialEq, Eq)]
+pub struct Totals {
+    pub bundles: u32,
+    pub loads: u32,
 }

@@ -15,9 +15,9 @@ use Rattle.paging.specs.Refusals.{refuse, sizes_refusal, trace_refusal}
 use Rattle.paging.proofs.Refusals.{zero_pass, sizes_pass, sizes_fall, sizes_rest, trace_right}
 use Rattle.paging.specs.declared.Keeping.{Keeping}
 use Rattle.paging.proofs.Numbers.{number_above}
-use Rattle.paging.specs.Numbers.{number_of}
+use Rattle.paging.specs.Numbers.{number_of, totals_answer}
 use Rattle.paging.specs.declared.reasons.Refusal.{Refusal}
-use Rattle.queue.specs.Answers.{ReplyAnswer, accepted, totals_answer}
+use Rattle.queue.specs.Answers.{ReplyAnswer, accepted}
 use Rattle.queue.specs.Calls.{well_formed, run_refusal, request_refusal, Answered, Previewed, totals_of}
 use Rattle.queue.specs.Serving.{cache_served}
 use Rattle.queue.specs.Standing.{run_over}

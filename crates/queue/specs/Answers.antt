@@ -5,7 +5,6 @@ use Rattle.paging.specs.Policy.{kind_number}
 use Rattle.paging.specs.declared.reasons.Refusal.{Refusal}
 use Rattle.queue.specs.declared.Reply.{Reply}
 use Rattle.queue.specs.declared.Run.{Run}
-use Rattle.queue.specs.declared.Totals.{Totals}
 
 -- of a request: the new record and count, and 0 for a hit, 1 for a load, 2 for a load after a bundle
 pub record ReplyAnswer : Type 0 where
@@ -13,12 +12,6 @@ pub record ReplyAnswer : Type 0 where
   pub run : Run
   pub count : ℕ
   pub answer : ℕ
-
--- of a trace: bundles and loads
-pub record TotalsAnswer : Type 0 where
-  pub refusal : ℕ
-  pub bundles : ℕ
-  pub loads : ℕ
 
 abbrev pub accepted : Reply → ReplyAnswer
 accepted reply =
@@ -38,7 +31,3 @@ reply_answer (Err reason) =
       count = 0;
       answer = 0;
     }
-
-abbrev pub totals_answer : Result Totals Refusal → TotalsAnswer
-totals_answer (Ok totals) = record { refusal = 0; bundles = totals.bundles; loads = totals.loads }
-totals_answer (Err reason) = record { refusal = number_of reason; bundles = 0; loads = 0 }

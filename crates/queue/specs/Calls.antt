@@ -1,13 +1,14 @@
 -- The call, for any record, count and lists: its refusals (document 01, "Who can cause a refusal" and "Well formed"), and what it
 -- answers and leaves. A refusal is its number with zeros elsewhere, and changes nothing.
 use Rattle.std.specs.Prelude.{ℕ, Bool, false, not, List, ◌≡◌, eqb, leb, ltb, length, take}
+use Rattle.paging.specs.Numbers.{TotalsAnswer}
 use Rattle.lists.specs.Choice.{pick, ◌and◌, ◌or◌}
 use Rattle.lists.specs.Pages.{distinct}
 use Rattle.paging.specs.Front.{front_rule}
 use Rattle.paging.specs.Policy.{bundle_count_by, load_count_by}
 use Rattle.paging.specs.Refusals.{full_counter, refuse, sizes_refusal, trace_refusal}
 use Rattle.paging.specs.declared.Keeping.{Keeping}
-use Rattle.queue.specs.Answers.{ReplyAnswer, TotalsAnswer}
+use Rattle.queue.specs.Answers.{ReplyAnswer}
 use Rattle.queue.specs.Serving.{empty_run, cache_served, evicted_served, reply_served}
 use Rattle.queue.specs.declared.Run.{Run}
 

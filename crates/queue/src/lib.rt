@@ -4,14 +4,14 @@
 #![tactic(auto)]
 
 ghost use Rattle.std.specs.Prelude.{◌≤◌, ◌≡◌, length};
-ghost use Rattle.paging.specs.Numbers.{refusal_of};
-ghost use Rattle.queue.specs.Answers.{reply_answer, totals_answer};
+ghost use Rattle.paging.specs.Numbers.{refusal_of, totals_answer};
+ghost use Rattle.queue.specs.Answers.{reply_answer};
 ghost use Rattle.queue.specs.Calls.{well_formed, request_refusal, reply_of, cache_of, evicted_of, Previewed, totals_of};
 ghost use Rattle.queue.specs.Serving.{empty_run};
 ghost use Rattle.queue.specs.inner.Telling.{Told};
 
 use crate::serving::Found;
-use paging::{Keeping, Outcome, Refusal, Sizes};
+use paging::{Keeping, Outcome, Refusal, Sizes, Totals};
 
 mod serving;
 
@@ -143,13 +143,6 @@ fn tell(
     serving::evict(found, a, cache, evicted);
     let reply = serving::answered(found, run, count);
     Ok((reply, found))
-}
-
-// What a trace comes to.
-#[derive(Clone, Copy, Debug, PartialEq, Eq)]
-pub struct Totals {
-    pub bundles: u32,
-    pub loads: u32,
 }
 
 // A whole trace, from the empty buffer.

@@ -6,6 +6,7 @@ use mathlib.Core.Path.{◌≡◌, refl, sym, ap, ◌∙◌}
 use lib.ListN.{length, take, drop, replicate, length-replicate}
 use lib.Seq.{take-append_seam}
 use Rattle.std.specs.Prelude.{Err}
+use Rattle.paging.specs.Numbers.{TotalsAnswer, totals_answer}
 use Rattle.paging.proofs.Numbers.{number_above}
 use Rattle.paging.specs.declared.reasons.Refusal.{Refusal}
 use Rattle.paging.specs.Layers.{no_layers, layers_after, join_count}
@@ -17,16 +18,14 @@ use Rattle.traces.specs.Calls.{TraceCountAnswer, count_of, pages_after}
 use Rattle.traces.specs.Traces.{TraceFile, trace_file}
 use Rattle.traces.proofs.CallLaws.{CountedWhole, count_refused_lem, count_whole}
 use Rattle.queue.specs.Calls.{totals_of}
-use Rattle.queue.specs.Answers.{TotalsAnswer}
 use Rattle.layers.specs.Traces.{LayersTotalsAnswer, layers_totals_answer, trace_totals}
 use Rattle.layers.proofs.Steps.{trace_accepted, trace_counts}
 use Rattle.marking.specs.Marking.{mark_bundles, mark_loads}
 use Rattle.marking.specs.Rdm.{rdm}
-use Rattle.mark.specs.Traces.{Table, MarkTotalsAnswer, mark_totals_answer, table_with}
+use Rattle.mark.specs.Traces.{Table, table_with}
 use Rattle.mark.specs.Traces as mark_totals
 use Rattle.mark.proofs.Blank.{trace_marked}
 use Rattle.min.specs.Calls.{counts_of}
-use Rattle.min.specs.Answers.{CountsAnswer, counts_answer}
 use Rattle.report.specs.Calls.{ReportAnswer, report_answer, counts, layers_counts, figures, revealed_after, refused_report, reported, report_of}
 
 module _ (k a : ℕ) (trace : List ℕ) (right : SizesRight k a) (short : length trace ≤ 4096) where
@@ -50,7 +49,7 @@ module _ (k a : ℕ) (trace : List ℕ) (right : SizesRight k a) (short : length
       ≡ record { refusal = 0; bundles = mark_bundles (rdm k a) k a trace; loads = mark_loads (rdm k a) k a trace }
   marks_take = trace_marked k a trace 4096 right (omega arith) short
 
-  pub figures_told : (m : CountsAnswer) (l f : TotalsAnswer) (n : MarkTotalsAnswer) (y : LayersTotalsAnswer)
+  pub figures_told : (m : TotalsAnswer) (l f : TotalsAnswer) (n : TotalsAnswer) (y : LayersTotalsAnswer)
       → m ≡ counts_of k a trace → l ≡ totals_of ByRequest k a trace → f ≡ totals_of ByLoad k a trace
       → n ≡ mark_totals.totals_of k a trace blank_table → y ≡ trace_totals k a trace blank blank
       → record {
@@ -70,11 +69,11 @@ module _ (k a : ℕ) (trace : List ℕ) (right : SizesRight k a) (short : length
 
   -- so there is no reason for a refusal
 
-  pub min_takes : (reason : Refusal) → counts_answer (Err reason) ≡ counts_of k a trace → report_answer (Err reason) ≡ figures k a trace
-  min_takes reason e = absurd (number_above reason (ap (λ (x : CountsAnswer). x.refusal) e ∙ rw accepted refl))
+  pub min_takes : (reason : Refusal) → totals_answer (Err reason) ≡ counts_of k a trace → report_answer (Err reason) ≡ figures k a trace
+  min_takes reason e = absurd (number_above reason (ap (λ (x : TotalsAnswer). x.refusal) e ∙ rw accepted refl))
 
-  pub mark_takes : (reason : Refusal) → mark_totals_answer (Err reason) ≡ mark_totals.totals_of k a trace blank_table → report_answer (Err reason) ≡ figures k a trace
-  mark_takes reason e = absurd (number_above reason (ap (λ (x : MarkTotalsAnswer). x.refusal) (e ∙ marks_take)))
+  pub mark_takes : (reason : Refusal) → totals_answer (Err reason) ≡ mark_totals.totals_of k a trace blank_table → report_answer (Err reason) ≡ figures k a trace
+  mark_takes reason e = absurd (number_above reason (ap (λ (x : TotalsAnswer). x.refusal) (e ∙ marks_take)))
 
   pub layers_take_all : (reason : Refusal) → layers_totals_answer (Err reason) ≡ trace_totals k a trace blank blank
       → report_answer (Err reason) ≡ figures k a trace

@@ -12,14 +12,14 @@ use Rattle.paging.specs.declared.reasons.Refusal.{Refusal}
 use Rattle.marking.specs.Marking.{mark_bundles, mark_loads}
 use Rattle.marking.specs.Rdm.{rdm}
 use Rattle.traces.specs.Traces.{TraceFile, whole, damaged, trace_file}
-use Rattle.report.specs.declared.LayersFigures.{LayersFigures}
-use Rattle.report.specs.declared.PolicyFigures.{PolicyFigures}
+use Rattle.layers.specs.declared.LayersTotals.{LayersTotals}
+use Rattle.paging.specs.declared.outcomes.Totals.{Totals}
 use Rattle.report.specs.declared.Report.{Report}
 
-abbrev pub counts : (bundles loads : ℕ) → PolicyFigures
+abbrev pub counts : (bundles loads : ℕ) → Totals
 counts bundles loads = record { bundles = bundles; loads = loads }
 
-abbrev pub layers_counts : (bundles s revealed : ℕ) → LayersFigures
+abbrev pub layers_counts : (bundles s revealed : ℕ) → LayersTotals
 layers_counts bundles s shown = record { bundles = bundles; s = s; revealed = shown }
 
 -- the numbers of the six lines; or a refusal's number, and zeros
@@ -28,11 +28,11 @@ pub record ReportAnswer : Type 0 where
   pub k : ℕ
   pub a : ℕ
   pub requests : ℕ
-  pub min : PolicyFigures
-  pub lru : PolicyFigures
-  pub fifo : PolicyFigures
-  pub mark : PolicyFigures
-  pub layers : LayersFigures
+  pub min : Totals
+  pub lru : Totals
+  pub fifo : Totals
+  pub mark : Totals
+  pub layers : LayersTotals
 
 abbrev pub refused_report : (number : ℕ) → ReportAnswer
 refused_report number =

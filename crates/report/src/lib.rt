@@ -4,25 +4,11 @@
 ghost use Rattle.std.specs.Prelude.{◌≡◌};
 ghost use Rattle.report.specs.Calls.{report_answer, report_of, ReadEnough};
 
-use paging::Refusal;
+use layers::LayersTotals;
+use paging::{Refusal, Totals};
 use records::length;
 
 mod figures;
-
-// Bundles and loads of a policy.
-#[derive(Clone, Copy, Debug, PartialEq, Eq)]
-pub struct PolicyFigures {
-    pub bundles: u32,
-    pub loads: u32,
-}
-
-// Bundles that the layers count, s, and revealed pages.
-#[derive(Clone, Copy, Debug, PartialEq, Eq)]
-pub struct LayersFigures {
-    pub bundles: u32,
-    pub s: u32,
-    pub revealed: u32,
-}
 
 // The six lines' numbers.
 #[derive(Clone, Copy, Debug, PartialEq, Eq)]
@@ -30,11 +16,11 @@ pub struct Report {
     pub k: u32,
     pub a: u32,
     pub requests: u32,
-    pub min: PolicyFigures,
-    pub lru: PolicyFigures,
-    pub fifo: PolicyFigures,
-    pub mark: PolicyFigures,
-    pub layers: LayersFigures,
+    pub min: Totals,
+    pub lru: Totals,
+    pub fifo: Totals,
+    pub mark: Totals,
+    pub layers: LayersTotals,
 }
 
 impl Report {
