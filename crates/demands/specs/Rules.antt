@@ -1,9 +1,10 @@
 -- Which layer rule applied (document 02, request 02), over lists of calls to the layers: requests and questions in any order, refused ones included.
 use Rattle.std.specs.Prelude.{ℕ, ◌+◌, true, List, ◌≡◌}
+use Rattle.paging.specs.Numbers.{rule_number}
 use Rattle.lists.specs.Pages.{count}
 use Rattle.paging.specs.Layers.{LayerRule, is_append, is_join, is_lift, no_layers, layer_rule, layers_after, layer_rules}
 use Rattle.paging.specs.Min.{best_count, min_loads}
-use Rattle.layers.specs.Calls.{rule_number, state_refusal, request_reply}
+use Rattle.layers.specs.Calls.{state_refusal, request_reply}
 use Rattle.layers.specs.declared.LayersRun.{LayersRun}
 use Rattle.demands.specs.LayersCalls.{LayersCall, layers_start, request_accepted, layers_after_calls, layers_trace}
 

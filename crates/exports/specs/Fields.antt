@@ -2,13 +2,13 @@
 use Rattle.std.specs.Prelude.{ℕ, List, [], ◌∷◌}
 use Rattle.traces.specs.Calls.{TraceCountAnswer}
 use Rattle.editions.specs.Calls.{ConvertedAnswer}
-use Rattle.queue.specs.Answers.{ReplyAnswer, TotalsAnswer}
-use Rattle.min.specs.Answers.{CountsAnswer, ScheduledAnswer}
+use Rattle.paging.specs.Numbers.{TotalsAnswer}
+use Rattle.queue.specs.Answers.{ReplyAnswer}
+use Rattle.min.specs.Answers.{ScheduledAnswer}
 use Rattle.layers.specs.Calls.{LayersReplyAnswer}
 use Rattle.layers.specs.Questions.{RevealedAnswer}
 use Rattle.layers.specs.Traces.{LayersTotalsAnswer}
 use Rattle.mark.specs.Calls.{MarkReplyAnswer}
-use Rattle.mark.specs.Traces.{MarkTotalsAnswer}
 
 abbrev pub queue_reply_fields : ReplyAnswer → List ℕ
 queue_reply_fields r =
@@ -23,7 +23,7 @@ trace_count_fields r = r.refusal ∷ r.k ∷ r.a ∷ r.requests ∷ []
 abbrev pub converted_fields : ConvertedAnswer → List ℕ
 converted_fields r = r.refusal ∷ r.length ∷ []
 
-abbrev pub counts_fields : CountsAnswer → List ℕ
+abbrev pub counts_fields : TotalsAnswer → List ℕ
 counts_fields r = r.refusal ∷ r.bundles ∷ r.loads ∷ []
 
 abbrev pub scheduled_fields : ScheduledAnswer → List ℕ
@@ -47,5 +47,5 @@ mark_reply_fields r =
     ∷ r.run.layers.k ∷ r.run.layers.a ∷ r.run.layers.requests ∷ r.run.layers.evictions ∷ r.run.layers.s
     ∷ r.run.layers.appends ∷ r.run.layers.joins ∷ r.run.layers.lifts ∷ r.count ∷ r.answer ∷ []
 
-abbrev pub mark_totals_fields : MarkTotalsAnswer → List ℕ
+abbrev pub mark_totals_fields : TotalsAnswer → List ℕ
 mark_totals_fields r = r.refusal ∷ r.bundles ∷ r.loads ∷ []

@@ -4,14 +4,15 @@ ghost use Rattle.std.specs.Prelude.{◌≡◌};
 ghost use Rattle.lists.specs.Places.{pasted};
 ghost use Rattle.mark.specs.Calls.{mark_reply_answer, reply_of, lent_after};
 ghost use Rattle.mark.specs.Lent.{lent};
-ghost use Rattle.mark.specs.Traces.{mark_totals_answer, table_with, totals_of, table_over};
+ghost use Rattle.mark.specs.Traces.{table_with, totals_of, table_over};
 ghost use Rattle.exports.specs.Records.{layers_run, mark_run};
 ghost use Rattle.exports.specs.Fields.{mark_reply_fields, mark_totals_fields};
 
+use crate::queue_fields::totals_fields;
 use crate::store::refused;
 use layers::LayersRun;
 use lists::moves::copy;
-use mark::{MarkReply, MarkRun, MarkTotals};
+use mark::{MarkReply, MarkRun};
 use paging::Refusal;
 
 // A request: refusal, the record's k, a, requests, loads, evictions and t, the layers' k, a, requests, evictions, s and three counts, then the number of
@@ -128,13 +129,4 @@ pub extern "C" fn mark_over_trace(
 {
     let all = totals_fields(mark::over_trace(k, a, trace, pages, numbers, times));
     copy(&all, out);
-}
-
-fn totals_fields(totals: Result<MarkTotals, Refusal>) -> [u64; 3]
-    ensures { result ≡ mark_totals_fields (mark_totals_answer totals) }
-{
-    match totals {
-        Ok(MarkTotals { bundles, loads }) => [0, u64::from(bundles), u64::from(loads)],
-        Err(reason) => refused(reason),
-    }
 }

@@ -1,13 +1,14 @@
 // Farthest next use over a whole trace.
 ghost use Rattle.std.specs.Prelude.{◌≡◌};
 ghost use Rattle.lists.specs.Places.{pasted};
-ghost use Rattle.min.specs.Answers.{counts_answer, scheduled_answer};
+ghost use Rattle.min.specs.Answers.{scheduled_answer};
 ghost use Rattle.min.specs.Calls.{counts_of, scheduled_of, bytes_of};
 ghost use Rattle.exports.specs.Fields.{counts_fields, scheduled_fields};
 
+use crate::queue_fields::totals_fields;
 use crate::store::refused;
 use lists::moves::copy;
-use min::{Counts, Scheduled};
+use min::Scheduled;
 use paging::Refusal;
 
 // Its counts: refusal, bundles, loads.
@@ -15,17 +16,8 @@ use paging::Refusal;
 pub extern "C" fn min_count(k: u32, a: u32, trace: &[u32], out: &mut [u64])
     ensures { out.new ≡ pasted (counts_fields (counts_of k a trace.now)) out.old }
 {
-    let all = counts_fields(min::count(k, a, trace));
+    let all = totals_fields(min::count(k, a, trace));
     copy(&all, out);
-}
-
-fn counts_fields(counts: Result<Counts, Refusal>) -> [u64; 3]
-    ensures { result ≡ counts_fields (counts_answer counts) }
-{
-    match counts {
-        Ok(Counts { bundles, loads }) => [0, u64::from(bundles), u64::from(loads)],
-        Err(reason) => refused(reason),
-    }
 }
 
 // Its schedule, in the first of the lent bytes: refusal, bundles, loads, length.

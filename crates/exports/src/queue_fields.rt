@@ -1,11 +1,12 @@
-// The fields of an answer of least recent use or oldest load, which answer alike.
+// The fields of an answer of least recent use or oldest load, which answer alike, and those of any policy over a trace.
 ghost use Rattle.std.specs.Prelude.{◌≡◌};
-ghost use Rattle.queue.specs.Answers.{reply_answer, totals_answer};
+ghost use Rattle.paging.specs.Numbers.{totals_answer};
+ghost use Rattle.queue.specs.Answers.{reply_answer};
 ghost use Rattle.exports.specs.Fields.{queue_reply_fields, queue_totals_fields};
 
 use crate::store::refused;
-use paging::Refusal;
-use queue::{Reply, Totals};
+use paging::{Refusal, Totals};
+use queue::Reply;
 
 pub(crate) fn reply_fields(reply: Result<Reply, Refusal>) -> [u64; 8]
     ensures { result ≡ queue_reply_fields (reply_answer reply) }

@@ -8,6 +8,7 @@ use Rattle.std.specs.Prelude.{Option, Some, None, is_none}
 use lib.Dec.{eqb}
 use lib.ListN.{length}
 use borrow.Author.Tests.{eq-eqb, ne_eqb, eqb-true, leb-true, not-false}
+use Rattle.paging.specs.Numbers.{rule_of}
 use Rattle.lists.specs.Sorting.{Row}
 use Rattle.paging.specs.Layers.{top_after}
 use Rattle.paging.specs.Refusals.{sizes_refusal, SizesRight, refuse}
@@ -15,7 +16,7 @@ use Rattle.paging.specs.Rows.{rows_of, numbers_of, pages_of, used_rows, table_of
 use Rattle.paging.specs.Table.{rule_in}
 use Rattle.paging.proofs.Refusals.{zero_pass, Chain, chain_end, chain_refuse, chain_behind, chain_fall, sizes_chain, sizes_pass, sizes_fall, sizes_rest, sizes_taken}
 use Rattle.paging.proofs.Rows.{numbers_back, pages_back}
-use Rattle.table.specs.Serving.{Sound, SteppedTo, rule_of}
+use Rattle.table.specs.Serving.{Sound, SteppedTo}
 use Rattle.table.specs.declared.Stepped.{Stepped}
 use Rattle.table.proofs.Serving.{used_rows_lem, used_rule}
 use Rattle.layers.specs.Calls.{state_refusal, request_refusal, reply_by, request_reply, pages_next, numbers_next, refused, rows_next}

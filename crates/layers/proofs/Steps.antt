@@ -7,6 +7,7 @@ use mathlib.Core.List.{List, [], ◌∷◌, ◌++◌}
 use mathlib.Core.Logic.{◌↔◌}
 use mathlib.Core.Path.{◌≡◌, refl, sym, ap, subst, ◌∙◌}
 use Rattle.std.specs.Prelude.{Result, Ok}
+use Rattle.paging.specs.Numbers.{rule_number}
 use Rattle.paging.specs.declared.reasons.Refusal.{Refusal}
 use lib.Dec.{eqb, ltb}
 use lib.ListN.{length, replicate, length-append, length-replicate}
@@ -25,7 +26,7 @@ use Rattle.paging.proofs.Refusals.{zero_pass, sizes_taken, trace_right, trace_ta
 use Rattle.paging.proofs.Rows.{pages_length, rows_back}
 use Rattle.paging.proofs.Rules.{layers_snoc, rules_length, rules_snoc, rules_add_up}
 use Rattle.paging.proofs.Table.{tabled_map, tabled_top, tabled_joins, tabled_snoc}
-use Rattle.layers.specs.Calls.{empty_run, state_refusal, rows_next, rule_next, rule_number, reply_next, request_refusal, request_reply, table_next, pages_next, numbers_next}
+use Rattle.layers.specs.Calls.{empty_run, state_refusal, rows_next, rule_next, reply_next, request_refusal, request_reply, table_next, pages_next, numbers_next}
 use Rattle.layers.specs.Formed.{layers_well_formed, is_unused}
 use Rattle.layers.specs.Questions.{layers_in, verdict_of, judged, possible_refusal, verdict}
 use Rattle.layers.specs.Traces.{overflows, all_unused, trace_totals, pages_over, numbers_over, over_refusal, early_refusal}

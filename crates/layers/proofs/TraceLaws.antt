@@ -12,6 +12,7 @@ use lib.Dec.{eqb, ltb}
 use lib.ListN.{length, take, drop, get_or, replicate, length-append, length-replicate, drop_of_length-le}
 use lib.Seq.{drop-cons, take_at, drop_at, length-take-le}
 use borrow.Author.Tests.{eq-eqb, ne_eqb, lt-ltb, le-ltb, ltb-true, ltb-false}
+use Rattle.paging.specs.Numbers.{rule_of}
 use Rattle.lists.specs.Choice.{pick, ◌and◌, ◌or◌}
 use Rattle.lists.specs.Pages.{bit}
 use Rattle.lists.specs.Sorting.{Row}
@@ -24,7 +25,7 @@ use Rattle.paging.proofs.Forming.{FormedRows, no_rows_formed, request_forms, one
 use Rattle.paging.proofs.Refusals.{trace_fall, trace_pass}
 use Rattle.paging.proofs.Rows.{rows_take, rows_drop, rows_append}
 use Rattle.table.specs.Filling.{TableFilled}
-use Rattle.table.specs.Serving.{Sound, DoneBy, SteppedTo, rule_of}
+use Rattle.table.specs.Serving.{Sound, DoneBy, SteppedTo}
 use Rattle.table.specs.declared.Stepped.{Stepped}
 use Rattle.table.proofs.Serving.{used_rows_lem, used_rule}
 use Rattle.layers.specs.Formed.{is_unused}

@@ -4,13 +4,11 @@ use Rattle.lists.specs.Choice.{pick}
 use Rattle.lists.specs.Pages.{bit}
 use Rattle.lists.specs.Sorting.{Row}
 use Rattle.paging.specs.Layers.{LayerRule, is_append, is_join, is_lift, top_after}
-use Rattle.paging.specs.Numbers.{number_of}
+use Rattle.paging.specs.Numbers.{number_of, rule_number, rule_of}
 use Rattle.paging.specs.Refusals.{refuse, sizes_refusal, full_counter}
 use Rattle.paging.specs.Rows.{rows_of, numbers_of, pages_of, used_rows, table_of}
 use Rattle.paging.specs.Table.{rule_in, rows_after}
 use Rattle.paging.specs.declared.reasons.Refusal.{Refusal}
-pub use Rattle.table.specs.Serving.{rule_number}
-use Rattle.table.specs.Serving.{rule_of}
 use Rattle.layers.specs.Formed.{layers_well_formed}
 use Rattle.layers.specs.declared.LayersReply.{LayersReply}
 use Rattle.layers.specs.declared.LayersRun.{LayersRun}

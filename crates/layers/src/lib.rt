@@ -3,15 +3,13 @@
 #![tactic(auto)]
 
 ghost use Rattle.std.specs.Prelude.{◌≡◌};
-ghost use Rattle.paging.specs.Numbers.{refusal_of};
-ghost use Rattle.table.specs.Serving.{rule_of};
+ghost use Rattle.paging.specs.Numbers.{refusal_of, rule_of};
 ghost use Rattle.layers.specs.Calls.{empty_run, state_refusal, reply_by, layers_reply_answer, request_reply, pages_next, numbers_next};
 ghost use Rattle.layers.specs.Questions.{RevealedTold, verdict_of, verdict};
 ghost use Rattle.layers.specs.Traces.{layers_totals_answer, trace_totals, pages_over, numbers_over};
 ghost use Rattle.layers.specs.inner.Counting.{CountersFit};
 
-use paging::{Refusal, Sizes};
-use table::RuleApplied;
+use paging::{Refusal, RuleApplied, Sizes};
 
 mod formed;
 mod questions;

@@ -7,6 +7,7 @@ use mathlib.Core.Path.{◌≡◌, refl, sym, ap, ◌∙◌}
 use lib.Dec.{eqb, leb, ltb}
 use lib.ListN.{length, take, drop, get_or}
 use Rattle.std.proofs.Common.{Option, Some, None, is_none}
+use Rattle.paging.specs.Numbers.{rule_of}
 use Rattle.lists.specs.Choice.{pick, ◌and◌}
 use Rattle.lists.specs.Places.{place}
 use Rattle.lists.specs.Sorting.{Row}
@@ -16,7 +17,7 @@ use Rattle.paging.specs.Rows.{rows_of, numbers_of, pages_of, table_of}
 use Rattle.paging.specs.Table.{number_in, rule_in, rows_after}
 use Rattle.paging.proofs.Rows.{pages_back, numbers_back}
 use Rattle.table.specs.Filling.{TableFilled}
-use Rattle.table.specs.Serving.{rule_of, DoneBy}
+use Rattle.table.specs.Serving.{DoneBy}
 use Rattle.table.specs.declared.Stepped as table_stepped
 use Rattle.table.proofs.Serving.{used_rows_lem, used_rule}
 use Rattle.timed.specs.Timed.{TimedReady, TimedTo}

@@ -8,7 +8,7 @@ use lib.ListN.{length}
 use borrow.Author.Tests.{eq-eqb, ne_eqb}
 use Rattle.std.proofs.Common.{Option, Some, None, is_none, Ok, Err}
 use Rattle.lists.specs.Places.{place}
-use Rattle.paging.specs.Numbers.{number_of, kind_of_outcome}
+use Rattle.paging.specs.Numbers.{number_of, kind_of_outcome, rule_of}
 use Rattle.paging.specs.Refusals.{refuse}
 use Rattle.paging.specs.Rows.{rows_of, table_of}
 use Rattle.paging.specs.Table.{rule_in, revealed}
@@ -17,7 +17,6 @@ use Rattle.paging.specs.declared.reasons.Refusal.TheVariants.{TableFull}
 use Rattle.paging.proofs.Refusals.{chain_fall}
 use Rattle.paging.proofs.Rows.{rows_length}
 use Rattle.paging.proofs.Forming.{FormedRows}
-use Rattle.table.specs.Serving.{rule_of}
 use Rattle.layers.proofs.Forming.{formed_rows}
 use Rattle.layers.proofs.Refusing.{counters_fit}
 use Rattle.layers.proofs.WellFormed.{facts, well_table, ordered_shape}

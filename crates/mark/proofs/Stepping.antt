@@ -4,8 +4,8 @@ use mathlib.Core.Bool.{Bool}
 use mathlib.Core.List.{List}
 use mathlib.Core.Path.{◌≡◌, refl, ap, ◌∙◌}
 use Rattle.std.proofs.Common.{Some, None}
+use Rattle.paging.specs.Numbers.{rule_of}
 use Rattle.paging.specs.Layers.{is_join}
-use Rattle.table.specs.Serving.{rule_of}
 use Rattle.marked.specs.Buffer.{ServedTo}
 use Rattle.marked.specs.declared.Served.{Served}
 use Rattle.marking.specs.Rdm.{priority_next, joins_next}

@@ -14,12 +14,11 @@ use Rattle.lists.specs.Places.{laid}
 use Rattle.lists.specs.Sorting.{sort_by}
 use Rattle.lists.proofs.Sorting.{length_sort}
 use Rattle.paging.specs.Layers.{is_join}
-use Rattle.paging.specs.Numbers.{kind_of_outcome}
+use Rattle.paging.specs.Numbers.{kind_of_outcome, rule_of}
 use Rattle.paging.specs.Policy.{Kind, is_bundled, is_load}
 use Rattle.paging.specs.Table.{rule_in}
 use Rattle.paging.specs.declared.outcomes.Outcome.{Outcome}
 use Rattle.paging.proofs.Runs.{kind_of_cases}
-use Rattle.table.specs.Serving.{rule_of}
 use Rattle.marking.specs.Marking.{Cached, pages_in, marks_in, priorities_in, sooner, cleared, mark_bundle, mark_kind, mark_served}
 use Rattle.marking.specs.Rdm.{Marking}
 use Rattle.marking.proofs.Cached.{cleared_length}

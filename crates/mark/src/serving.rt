@@ -2,17 +2,15 @@
 // and the cached pages are moved on. No check here but for room in the table, and that before anything is written.
 ghost use Rattle.std.specs.Prelude.{◌≤◌, ◌≡◌};
 ghost use Rattle.paging.specs.Layers.{is_join};
-ghost use Rattle.paging.specs.Numbers.{kind_of_outcome};
+ghost use Rattle.paging.specs.Numbers.{kind_of_outcome, rule_of};
 ghost use Rattle.paging.specs.Refusals.{largest_k};
-ghost use Rattle.table.specs.Serving.{rule_of};
 ghost use Rattle.marking.proofs.Whole.{whole_kind};
 ghost use Rattle.mark.specs.Lent.{lent};
 ghost use Rattle.mark.specs.Traces.{table_with};
 ghost use Rattle.mark.specs.inner.Stepping.{TableReady, AdvancedTo, StepReady, SteppedTo, AnswerReady, answered_by};
 
 use crate::{MarkReply, MarkRun};
-use paging::Outcome;
-use table::RuleApplied;
+use paging::{Outcome, RuleApplied};
 
 // What stands beside the layer table: s, the time t, how many pages are revealed, and the used places.
 #[derive(Clone, Copy)]

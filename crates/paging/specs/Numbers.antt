@@ -1,6 +1,9 @@
 -- The reasons for a refusal, with their numbers (document 01, "Who can cause a refusal"; document 02, request 03, for 13), and what a request did.
 use Rattle.std.specs.Prelude.{ℕ, Result, Ok, Err}
+use Rattle.paging.specs.Layers.{LayerRule, append, join, lift}
 use Rattle.paging.specs.Policy.{Kind, hit, load, bundled}
+use Rattle.paging.specs.declared.applied.RuleApplied.{RuleApplied}
+use Rattle.paging.specs.declared.applied.RuleApplied.TheVariants.{Append, Join, Lift}
 use Rattle.paging.specs.declared.outcomes.Outcome.{Outcome}
 use Rattle.paging.specs.declared.outcomes.Outcome.TheVariants.{Hit, Load, LoadAfterBundle}
 use Rattle.paging.specs.declared.outcomes.Totals.{Totals}
@@ -41,3 +44,15 @@ pub record TotalsAnswer : Type 0 where
 abbrev pub totals_answer : Result Totals Refusal → TotalsAnswer
 totals_answer (Ok totals) = record { refusal = 0; bundles = totals.bundles; loads = totals.loads }
 totals_answer (Err reason) = record { refusal = number_of reason; bundles = 0; loads = 0 }
+
+-- the rule of Figure 1 that each case of the code's enum stands for
+abbrev pub rule_of : RuleApplied → LayerRule
+rule_of Append = append
+rule_of Join = join
+rule_of Lift = lift
+
+-- the number that an accepted request to the layers answers (document 02, request 02): 1 for rule 1a, 2 for 1b, 3 for 1c
+abbrev pub rule_number : LayerRule → ℕ
+rule_number append = 1
+rule_number join = 2
+rule_number lift = 3

@@ -6,9 +6,11 @@ ghost use Rattle.std.specs.Prelude.{◌≡◌};
 ghost use Rattle.paging.specs.Numbers.{refusal_of};
 ghost use Rattle.paging.specs.Refusals.{sizes_refusal, trace_refusal};
 
+mod applied;
 mod outcomes;
 mod reasons;
 
+pub use crate::applied::RuleApplied;
 pub use crate::outcomes::{Outcome, Totals};
 pub use crate::reasons::Refusal;
 

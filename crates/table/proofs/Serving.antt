@@ -11,6 +11,7 @@ use lib.ListN.{length, take, drop, get_or, set, replicate, length-append, length
 use lib.Seq.{drop-cons, take-suc, take_all, set_at, get_or_at, take_at, drop_at}
 use mir.Val.{bool_byte}
 use borrow.Author.Tests.{lt-ltb, le-ltb}
+use Rattle.paging.specs.Numbers.{rule_of}
 use Rattle.lists.specs.Choice.{pick}
 use Rattle.lists.specs.Pages.{filter}
 use Rattle.lists.specs.Sorting.{Row, row_before, sort_rows}
@@ -21,9 +22,9 @@ use Rattle.paging.specs.Rows.{row_at, rows_of, unused, used_rows, table_of}
 use Rattle.paging.specs.Table.{number_in, renumbered_row, above_zero, others_after, rule_in, rows_after}
 use Rattle.paging.proofs.Rows.{rows_length, rows_get, rows_take, rows_drop, rows_append}
 use Rattle.paging.proofs.Table.{number_in_above_zero, renumbered_zero}
-use Rattle.table.specs.Serving.{change_for, changed, number_after, row_moved, moved, served, SteppedTo, rule_of}
+use Rattle.table.specs.Serving.{change_for, changed, number_after, row_moved, moved, served, SteppedTo}
 use Rattle.table.specs.declared.Change.{Change}
-use Rattle.table.specs.declared.RuleApplied.{RuleApplied}
+use Rattle.paging.specs.declared.applied.RuleApplied.{RuleApplied}
 use Rattle.table.proofs.Numbers.{changed_is, stays_is}
 
 -- The number of a page: what is passed, and what is left

@@ -1,5 +1,6 @@
 -- What the inner functions of src/lib.rt do to the rows: the definitions of the model, in the steps in which the code takes them.
 use Rattle.std.specs.Prelude.{ℕ, ◌-◌, ◌≤◌, min, List, [], ◌∷◌, ◌++◌, map, Option, is_none, IfSome, ◌≡◌, eqb, ltb, length}
+use Rattle.paging.specs.Numbers.{rule_of}
 use Rattle.lists.specs.Choice.{pick}
 use Rattle.lists.specs.Pages.{filter}
 use Rattle.lists.specs.Sorting.{Row, sort_rows}
@@ -8,21 +9,7 @@ use Rattle.paging.specs.Refusals.{SizesRight}
 use Rattle.paging.specs.Rows.{row_at, table_of}
 use Rattle.paging.specs.Table.{above_zero, rule_in, rows_after}
 use Rattle.table.specs.declared.Change.{Change}
-use Rattle.table.specs.declared.RuleApplied.{RuleApplied}
-use Rattle.table.specs.declared.RuleApplied.TheVariants.{Append, Join, Lift}
 use Rattle.table.specs.declared.Stepped.{Stepped}
-
--- the rule of Figure 1 that each case of the code's enum stands for
-abbrev pub rule_of : RuleApplied → LayerRule
-rule_of Append = append
-rule_of Join = join
-rule_of Lift = lift
-
--- the number that an accepted request answers (document 02, request 02): 1 for rule 1a, 2 for 1b, 3 for 1c
-abbrev pub rule_number : LayerRule → ℕ
-rule_number append = 1
-rule_number join = 2
-rule_number lift = 3
 
 -- sizes that were judged, and an s that they allow
 pub record Sound (k a s : ℕ) : Type 0 where

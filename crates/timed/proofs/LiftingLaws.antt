@@ -28,7 +28,7 @@ use Rattle.paging.proofs.Forming.{lift_is}
 use Rattle.paging.specs.Rows.{row_at, rows_of, numbers_of, pages_of, unused, table_of}
 use Rattle.paging.specs.Table.{number_in, renumbered_row, above_zero, rule_in, rows_after}
 use Rattle.paging.proofs.Rows.{rows_length, rows_get, rows_take, rows_drop, rows_append, numbers_back, pages_back}
-use Rattle.table.specs.declared.RuleApplied.TheVariants.{Lift}
+use Rattle.paging.specs.declared.applied.RuleApplied.TheVariants.{Lift}
 use Rattle.timed.specs.Moving.{others, made_last, less_from, between, TakenOut, SortedBeside}
 use Rattle.timed.specs.Timed.{TimedReady, TimedTo}
 use Rattle.timed.proofs.Follow.{map_append, map_take, map_drop, part_follows, get_follows, used_pages, t0_follows, number_some, timed_served}

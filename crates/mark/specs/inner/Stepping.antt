@@ -3,13 +3,13 @@ use Rattle.std.specs.Prelude.{ℕ, ◌+◌, ◌-◌, ◌≤◌, ◌<◌, List, O
 use Rattle.lists.specs.Choice.{pick}
 use Rattle.lists.specs.Pages.{bit}
 use Rattle.lists.specs.Sorting.{Row}
-use Rattle.paging.specs.Numbers.{kind_of_outcome}
+use Rattle.paging.specs.Numbers.{kind_of_outcome, rule_of}
 use Rattle.paging.specs.Policy.{is_bundled, is_load}
 use Rattle.paging.specs.Refusals.{full_counter}
 use Rattle.paging.specs.Rows.{rows_of, numbers_of, pages_of, used_rows, table_of}
 use Rattle.paging.specs.Table.{rule_in, revealed}
 use Rattle.paging.proofs.Forming.{FormedRows}
-use Rattle.table.specs.Serving.{Sound, rule_of}
+use Rattle.table.specs.Serving.{Sound}
 use Rattle.layers.specs.Calls as layers_calls
 use Rattle.layers.specs.inner.Counting.{CountersFit}
 use Rattle.marking.specs.Marking.{mark_kind}
