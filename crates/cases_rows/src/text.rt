@@ -129,6 +129,7 @@ pub fn list<'a>(text: &'a [u8], kept: usize, to: &mut [u32]) -> Given<'a>
     }
     let mut behind = text;
     let mut count = 0;
+    // A token has many bytes, so its own length says where the next one begins.
     while let Some((first, rest)) = behind.split_first() {
         let token = read_token(*first, rest);
         behind = token.behind;

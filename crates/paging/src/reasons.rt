@@ -58,7 +58,7 @@ impl Refusal {
     }
 }
 
-// As the programs print it.
+// As the program `cases` prints it, and as bench, to_old and to_new write it on their output: the word and the number.
 impl fmt::Display for Refusal {
     fn fmt<W: fmt::Write>(&self, f: &mut fmt::Formatter<W>) -> fmt::Result {
         write!(f, "refused {}", self.number())
