@@ -32,9 +32,9 @@ last_some x [] h e = omega arith
 last_some x (y ∷ ys) h e = omega arith
 
 -- the keys are what the request asks for
-room_for : (k a x : ℕ) (keys : List ℕ) → length keys ≤ k → k ≤ 256 → 0 < a → a ≤ k → 0 < x → Room (kind_in k x keys) a keys
+room_for : (k a x : ℕ) (keys : List ℕ) → length keys ≤ k → k ≤ 256 → 0 < a → a ≤ k → 0 < x → Room (kind_in k x keys) a 256 keys
 room_for k a x keys h g s f b =
-    kind_cases (λ kind. Room kind a keys) k x keys (λ d. last_some x keys b d) (λ d. omega arith) (λ d. (s, omega arith))
+    kind_cases (λ kind. Room kind a 256 keys) k x keys (λ d. last_some x keys b d) (λ d. omega arith) (λ d. (s, omega arith))
 
 -- and again after the request
 served_fits : (k a x next : ℕ) (keys : List ℕ) → length keys ≤ k → 0 < a → a ≤ k → 0 < x
@@ -76,7 +76,7 @@ module _ (k a t : ℕ) (kind : Kind) (trace lefts keys : List ℕ) (ready : Pass
   above = omega (arith, present_left t trace more)
 
   -- what serving asks for
-  pub room : Room kind a keys
+  pub room : Room kind a 256 keys
   room = rw kind_is (room_for k a _ keys at.held ready.sizes.k_high ready.sizes.a_low ready.sizes.a_high above)
 
   -- the bundle comes first among those to come

@@ -7,7 +7,13 @@ ghost use Rattle.keys.specs.Keys.{key, kind_in, kinds_of};
 ghost use Rattle.min.specs.inner.Run.{Accepted, PassReady};
 
 use keys::Held;
-use paging::{Outcome, Totals};
+use paging::{Outcome, Sizes, Totals};
+
+// At most as many keys as pages can be held.
+const K_MAX: usize = Sizes::K_MAX as usize;
+
+// The keys of the pages held.
+pub(crate) type Buffer = Held<K_MAX>;
 
 // What a pass goes over: a trace with the left of each request, for sizes that are not refused.
 #[derive(Clone, Copy)]
@@ -35,7 +41,7 @@ impl<'a> Pass<'a> {
     }
 
     // What request t is, by the keys before it, and the key that its page has from then on.
-    pub(crate) fn asked(self, held: &Held, t: usize) -> (Outcome, u64)
+    pub(crate) fn asked(self, held: &Buffer, t: usize) -> (Outcome, u64)
         requires { t < length self.trace.now }
         ensures { (kind_of_outcome result.0 ≡ kind_in self.entry.k (key (drop t self.entry.trace.now) (get_or self.entry.trace.now t 0)) held.now)
             × (result.1 ≡ key (drop (t + 1) self.entry.trace.now) (get_or self.entry.trace.now t 0)) }
@@ -54,7 +60,7 @@ impl<'a> Pass<'a> {
         ensures { (result.bundles ≡ count is_bundled (kinds_of self.entry.k self.entry.a self.entry.trace.now []))
             × (result.loads ≡ count is_load (kinds_of self.entry.k self.entry.a self.entry.trace.now [])) }
     {
-        let mut held = Held::none();
+        let mut held = Buffer::none();
         let mut bundles = 0;
         let mut loads = 0;
         for t in 0..self.trace.len() {

@@ -10,8 +10,7 @@ ghost use Rattle.min.specs.Calls.{bytes_refusal, scheduled_by, bytes_by};
 ghost use Rattle.min.specs.inner.Run.{Accepted, EvRoom, BundleRoom};
 
 use crate::Scheduled;
-use crate::run::Pass;
-use keys::Held;
+use crate::run::{Buffer, Pass};
 use paging::{Outcome, Refusal, Sizes};
 
 // The pages of a bundle's keys.
@@ -37,7 +36,7 @@ fn put_bundle(bundle: &[u64], t: u32, rest: &mut [u8]) -> usize
 // The bundle's EV from an offset on, where a request was a load after a bundle; answers the offset behind it.
 fn put_if_bundled(
     outcome: Outcome,
-    held: &Held,
+    held: &Buffer,
     a: usize,
     t: usize,
     out: &mut [u8],
@@ -59,7 +58,7 @@ fn put_bundles(pass: Pass, out: &mut [u8], from: usize)
     requires { from + length (joined entry_bytes (bundles_of pass.k pass.a 0 pass.trace.now [])) ≤ length out.old }
     ensures { out.new ≡ placed out.old from (joined entry_bytes (bundles_of pass.entry.k pass.entry.a 0 pass.entry.trace.now [])) }
 {
-    let mut held = Held::none();
+    let mut held = Buffer::none();
     let mut at = from;
     for t in 0..pass.trace.len() {
         let (outcome, next) = pass.asked(&held, t);

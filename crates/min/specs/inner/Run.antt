@@ -42,7 +42,7 @@ pub record EvRoom (bundle rest : List ℕ) : Type 0 where
 -- what a request of this kind writes fits from the offset on
 pub record BundleRoom (kind : Kind) (a t at : ℕ) (keys out : List ℕ) : Type 0 where
   pub small : length keys ≤ largest_k
-  pub asked : Room kind a keys
+  pub asked : Room kind a largest_k keys
   pub early : t < longest_trace
   pub room : at + length (joined entry_bytes (bundle_of kind a t keys [])) ≤ length out
 
