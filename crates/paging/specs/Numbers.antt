@@ -8,7 +8,8 @@ use Rattle.paging.specs.declared.outcomes.Outcome.{Outcome}
 use Rattle.paging.specs.declared.outcomes.Outcome.TheVariants.{Hit, Load, LoadAfterBundle}
 use Rattle.paging.specs.declared.outcomes.Totals.{Totals}
 use Rattle.paging.specs.declared.reasons.Refusal.{Refusal}
-use Rattle.paging.specs.declared.reasons.Refusal.TheVariants.{BufferSize, BundleSize, TraceTooLong, WrongMark, CutShort, WrongRecord, TooManyHeld, TooLittleRoom, IllFormed, TableFull, PageTwice, CounterFull, EmptyRun}
+use Rattle.paging.specs.declared.reasons.Refusal.TheVariants.{BufferSize, BundleSize, TraceTooLong, WrongMark, CutShort, WrongRecord, TooManyHeld}
+use Rattle.paging.specs.declared.reasons.Refusal.TheVariants.{TooLittleRoom, IllFormed, TableFull, PageTwice, CounterFull, EmptyRun}
 
 abbrev pub number_of : Refusal → ℕ
 number_of BufferSize = 1

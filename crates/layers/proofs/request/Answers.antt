@@ -60,5 +60,6 @@ returns c =
     let step = c.step in
     let z = sym c.in_ok-check_state.ensures in
     let even = (state_ready args.run args.pages.now args.numbers.now z).even in
-    let t = request_served args.run args.pages.now args.numbers.now args.page z c.if-run-eq-COUNTER_MAX.false _ step.new.pages step.new.numbers (rw c.in_ok-stepped.ensures.ok_part at step.ensures) (omega arith) in
+    let t = request_served args.run args.pages.now args.numbers.now args.page z c.if-run-eq-COUNTER_MAX.false _ step.new.pages step.new.numbers
+    (rw c.in_ok-stepped.ensures.ok_part at step.ensures) (omega arith) in
     (rw c.counted.ensures t.0, t.1, t.2)
