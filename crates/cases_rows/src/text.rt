@@ -1,5 +1,5 @@
 // The numbers and lists of a row.
-ghost use Rattle.std.specs.Prelude.{◌≤◌, ◌<◌, length};
+ghost use Rattle.std.specs.Prelude.{◌≤◌, ◌<◌, IfSome, length};
 ghost use Rattle.io.specs.Counts.{IsPrefixLen};
 
 // The first place of a byte from an offset on, or the text's end.
@@ -15,7 +15,9 @@ pub fn find(text: &[u8], from: usize, byte: u8) -> usize
 }
 
 // What a digit stands for.
-fn digit(b: u8) -> Option<u32> {
+fn digit(b: u8) -> Option<u32>
+    ensures { IfSome result (λ d. d < 10) }
+{
     char::from(b).to_digit(10)
 }
 

@@ -238,8 +238,11 @@ fn bundle(s: &[u8], at: usize, bound: u32) -> Result<ScheduleRecord, Refusal>
     if n == 0 || u32::from(n) > bound {
         return Err(Refusal::WrongRecord);
     }
+    if u32::from(n) > MOST {
+        return Err(Refusal::WrongRecord);
+    }
     let n = usize::from(n);
-    let size = length::ev_length(n).ok_or(Refusal::WrongRecord)?;
+    let size = length::ev_length(n).unwrap();
     if s.len() - at < size {
         return Err(Refusal::CutShort);
     }

@@ -53,8 +53,10 @@ pub fn ev(out: &mut [u8], at: usize, t: u32, pages: &[u32]) -> Result<usize, Ref
     if n == 0 {
         return Err(Refusal::WrongRecord);
     }
-    let size = length::ev_length(n).ok_or(Refusal::WrongRecord)?;
-    room(out.len(), at, size)?;
+    if n > length::PAGES_MAX {
+        return Err(Refusal::WrongRecord);
+    }
+    room(out.len(), at, length::ev_length(n).unwrap())?;
     let size = put::ev(&mut out[at..], t, pages).unwrap();
     Ok(at + size)
 }
