@@ -5,7 +5,7 @@ use native.Mathlib.Omega.{arith}
 use mathlib.Core.Bool.{false, not, ◌&&◌}
 use mathlib.Core.List.{List, [], ◌∷◌, ◌++◌, map, append_assoc, append-nil}
 use mathlib.Core.Path.{◌≡◌, refl, sym, ap, ◌∙◌}
-use Rattle.std.specs.Prelude.{Some, None}
+use Rattle.std.specs.Prelude.{Ok, Err}
 use lib.Dec.{eqb, ltb}
 use lib.ListN.{length, take, drop, get_or, set, replicate, length-append, length-replicate, drop_of_length-le}
 use lib.Seq.{drop-cons, take-suc, take_all, set_at, get_or_at, take_at, drop_at}
@@ -260,17 +260,19 @@ module _ (c : Change) (applied : RuleApplied) (k a i s p places n : ℕ) (ns ps 
   rule_is : rule_of applied ≡ rule_in k s p (rows_of ns ps)
   rule_is = er ∙ rw ei
 
-  pub step_full : places ≤ n → SteppedTo k a s p places (rows_of ns ps) (rows_of ns ps) None
+  pub step_full : places ≤ n → SteppedTo k a s p places (rows_of ns ps) (rows_of ns ps) (Err applied)
   step_full h = record {
     full_told = rw after_length (sym (lt-ltb places (n + 1) (omega arith)));
+    rule_told = rule_is;
     rows_told = refl;
     done_told = tt;
   }
 
   pub step_served : (top : ℕ) (after : List Row) → n < places → top ≡ top_after (rule_of applied) k a s → after ≡ table_of places (served c top (rows_of ns ps))
-      → SteppedTo k a s p places (rows_of ns ps) after (Some (record { rule = applied; s = top; used = n + 1 }))
+      → SteppedTo k a s p places (rows_of ns ps) after (Ok (record { rule = applied; s = top; used = n + 1 }))
   step_served top after h et told = let same : served c top (rows_of ns ps) ≡ rows_after k a s p (rows_of ns ps) = rw et after_is in record {
     full_told = rw after_length (sym (le-ltb places (n + 1) (omega arith)));
+    rule_told = rule_is;
     rows_told = told ∙ ap (table_of places) same;
-    done_told = record { rule_told = rule_is; top_told = et ∙ rw rule_is; used_told = sym after_length };
+    done_told = record { top_told = et ∙ rw rule_is; used_told = sym after_length };
   }

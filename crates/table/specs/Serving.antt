@@ -1,5 +1,5 @@
 -- What the inner functions of src/lib.rt do to the rows: the definitions of the model, in the steps in which the code takes them.
-use Rattle.std.specs.Prelude.{ℕ, ◌-◌, ◌≤◌, min, List, [], ◌∷◌, ◌++◌, map, Option, is_none, IfSome, ◌≡◌, eqb, ltb, length}
+use Rattle.std.specs.Prelude.{ℕ, ◌-◌, ◌≤◌, min, List, [], ◌∷◌, ◌++◌, map, Result, Ok, Err, is_err, IfOk, ◌≡◌, eqb, ltb, length}
 use Rattle.paging.specs.Numbers.{rule_of}
 use Rattle.lists.specs.Choice.{pick}
 use Rattle.lists.specs.Pages.{filter}
@@ -8,6 +8,7 @@ use Rattle.paging.specs.Layers.{LayerRule, append, join, lift, top_after}
 use Rattle.paging.specs.Refusals.{SizesRight}
 use Rattle.paging.specs.Rows.{row_at, table_of}
 use Rattle.paging.specs.Table.{above_zero, rule_in, rows_after}
+use Rattle.paging.specs.declared.applied.RuleApplied.{RuleApplied}
 use Rattle.table.specs.declared.Change.{Change}
 use Rattle.table.specs.declared.Stepped.{Stepped}
 
@@ -55,14 +56,19 @@ moved change rows = filter above_zero (map (row_moved change) rows)
 abbrev pub served : Change → (top : ℕ) → List Row → List Row
 served change top rows = sort_rows (moved change rows) ++ (row_at top change.page ∷ [])
 
--- what a step that was done answers
+-- the rule in a step's answer: where the table has too few places, the one that would apply
+abbrev pub rule_applied : Result Stepped RuleApplied → RuleApplied
+rule_applied (Ok t) = t.rule
+rule_applied (Err rule) = rule
+
+-- what a step that was done answers beside the rule
 pub record DoneBy (k a s p : ℕ) (before : List Row) (t : Stepped) : Type 0 where
-  pub rule_told : rule_of t.rule ≡ rule_in k s p before
   pub top_told : t.s ≡ top_after (rule_in k s p before) k a s
   pub used_told : t.used ≡ length (rows_after k a s p before)
 
 -- what a step answers, and the rows that it leaves. A table with too few places is left as it was
-pub record SteppedTo (k a s p places : ℕ) (before after : List Row) (r : Option Stepped) : Type 0 where
-  pub full_told : is_none r ≡ ltb places (length (rows_after k a s p before))
-  pub rows_told : after ≡ pick (is_none r) before (table_of places (rows_after k a s p before))
-  pub done_told : IfSome r (λ t. DoneBy k a s p before t)
+pub record SteppedTo (k a s p places : ℕ) (before after : List Row) (r : Result Stepped RuleApplied) : Type 0 where
+  pub full_told : is_err r ≡ ltb places (length (rows_after k a s p before))
+  pub rule_told : rule_of (rule_applied r) ≡ rule_in k s p before
+  pub rows_told : after ≡ pick (is_err r) before (table_of places (rows_after k a s p before))
+  pub done_told : IfOk r (λ t. DoneBy k a s p before t)
