@@ -5,7 +5,7 @@ use native.Mathlib.Omega.{arith}
 use mathlib.Core.Bool.{true, false}
 use mathlib.Core.List.{List, [], ◌∷◌, ◌++◌, map, append_assoc}
 use mathlib.Core.Path.{◌≡◌, refl, sym, ap, ◌∙◌}
-use Rattle.std.specs.Prelude.{Option, is_none}
+use Rattle.std.specs.Prelude.{Result, is_err}
 use lib.Dec.{eqb}
 use lib.ListN.{length, take, drop, get_or, replicate, length-append, length-take}
 use lib.Seq.{get_or-take, take-take, length-take-le, take-append-add, drop-append-add}
@@ -20,6 +20,7 @@ use Rattle.marking.specs.Rdm.{beside, t0_after, times_after}
 use Rattle.paging.specs.Rows.{row_at, rows_of, pages_of}
 use Rattle.paging.specs.Table.{number_in, rows_after, size_of}
 use Rattle.paging.proofs.Rows.{rows_take, pages_back}
+use Rattle.paging.specs.declared.applied.RuleApplied.{RuleApplied}
 use Rattle.table.specs.Serving.{SteppedTo}
 use Rattle.table.specs.declared.Stepped.{Stepped}
 use Rattle.timed.specs.Timed.{TimedReady, TimedTo}
@@ -133,14 +134,14 @@ module _ (k a s p t at used : ℕ) (ns ps ts : List ℕ) (R : TimedReady k a s p
   pub t0_new : mem p (take used ps) ≡ false → number_in (take used (rows_of ns ps)) p ≡ 0 → t0_after t p (take used (rows_of ns ps)) ts p ≡ t
   t0_new absent z = pick_true _ _ _ (and_i _ _ (eqb_self p) (eq-eqb _ _ z))
 
-  module _ (ns' ps' ts' : List ℕ) (r : Option Stepped) (lp : length ps' ≡ length ps) (ln : length ns' ≡ length ps)
+  module _ (ns' ps' ts' : List ℕ) (r : Result Stepped RuleApplied) (lp : length ps' ≡ length ps) (ln : length ns' ≡ length ps)
       (S : SteppedTo k a s p (length ps) (rows_of ns ps) (rows_of ns' ps') r) where
     -- a step that had no room
-    pub timed_full : is_none r ≡ true → ts' ≡ ts → TimedTo k a s p t used ns ps ts ns' ps' ts' r
+    pub timed_full : is_err r ≡ true → ts' ≡ ts → TimedTo k a s p t used ns ps ts ns' ps' ts' r
     timed_full f e = record { table = S; times_told = rw f e; pages_length = lp; numbers_length = ln }
 
     -- a step that had room and left the rows W and the requested page's: the times are those of its pages, zeros behind them
-    pub timed_served : (top : ℕ) (W : List Row) → is_none r ≡ false → rows_after k a s p (rows_of ns ps) ≡ W ++ (row_at top p ∷ [])
+    pub timed_served : (top : ℕ) (W : List Row) → is_err r ≡ false → rows_after k a s p (rows_of ns ps) ≡ W ++ (row_at top p ∷ [])
         → ts' ≡ map (t0_after t p (take used (rows_of ns ps)) ts) (pages_of W)
         ++ (t0_after t p (take used (rows_of ns ps)) ts p ∷ replicate (length ps - suc (length W)) 0)
         → TimedTo k a s p t used ns ps ts ns' ps' ts' r

@@ -6,7 +6,7 @@ use native.Mathlib.Omega.{arith}
 use mathlib.Core.Bool.{Bool, true, false, not}
 use mathlib.Core.List.{List, [], ◌∷◌, ◌++◌, map, append_assoc, append-nil}
 use mathlib.Core.Path.{◌≡◌, refl, sym, ap, ◌∙◌}
-use Rattle.std.specs.Prelude.{Some}
+use Rattle.std.specs.Prelude.{Ok}
 use lib.Dec.{eqb, leb, ltb}
 use lib.ListN.{length, take, drop, get_or, set, replicate, length-append, length-take, length-drop, length-replicate, length-set, drop_of_length-le}
 use lib.ListN.{take-append-drop, length-map, replicate-append-replicate}
@@ -453,14 +453,15 @@ module _ (k a s p t at used : ℕ) (ns ps ts : List ℕ) (R : TimedReady k a s p
       → length ps' ≡ length ps → length ns' ≡ length ps → rows_of ns' ps' ≡ table_of (length ps) (X ++ (row_at s p ∷ []))
       → ts' ≡ map (t0_after t p (take used (rows_of ns ps)) ts) (pages_of X)
       ++ (t0_after t p (take used (rows_of ns ps)) ts p ∷ replicate (length ps - suc (length X)) 0)
-      → TimedTo k a s p t used ns ps ts ns' ps' ts' (Some (record { rule = Lift; s = s; used = n }))
+      → TimedTo k a s p t used ns ps ts ns' ps' ts' (Ok (record { rule = Lift; s = s; used = n }))
   lift_told X n ns' ps' ts' after m room lp ln rows times =
       let many : length (rows_after k a s p (rows_of ns ps)) ≡ n = rw (after, length-append X (row_at s p ∷ [])) m in
       timed_served k a s p t at used ns ps ts R ns' ps' ts' _ lp ln
       (record {
         full_told = rw many (sym (le-ltb (length ps) n room));
+        rule_told = sym rule_lift;
         rows_told = rows ∙ ap (table_of (length ps)) (sym after);
-        done_told = record { rule_told = sym rule_lift; top_told = rw rule_lift; used_told = sym many };
+        done_told = record { top_told = rw rule_lift; used_told = sym many };
       }) s X refl after times
 
   module _ (ns₁ ps₁ ts₁ : List ℕ) (T : TakenOut at used (get_or ns at 0) s ns ps ts ns₁ ps₁ ts₁) where
@@ -479,7 +480,7 @@ module _ (k a s p t at used : ℕ) (ns ps ts : List ℕ) (R : TimedReady k a s p
     lowest_timed : (gone : ℕ) (ms ys zs : List ℕ) → get_or ns at 0 ≡ 1 → gone ≡ count (λ n. leb n 0) (take (used - 1) ns₁)
         → ys ≡ first_dropped gone (take used ps₁) → ms ≡ first_dropped gone (take used ns₁) → zs ≡ first_dropped gone (take used ts₁)
         → TimedTo k a s p t used ns ps ts (ms ++ drop used ns₁) (ys ++ drop used ps₁) (zs ++ drop used ts₁)
-        (Some (record { rule = Lift; s = s; used = used - gone }))
+        (Ok (record { rule = Lift; s = s; used = used - gone }))
     lowest_timed gone ms ys zs one eg ey em ez =
         let t0 : ℕ → ℕ = t0_after t p (take used (rows_of ns ps)) ts in
         let O = others at used ps in
@@ -530,7 +531,7 @@ module _ (k a s p t at used : ℕ) (ns ps ts : List ℕ) (R : TimedReady k a s p
       ends_fit = let w = ends in let l = others_length at used ps h R.filled.fits in let f = R.filled.fits in (w.0, omega (arith, w.1))
 
       pub higher_timed : (ps₂ ts₂ : List ℕ) → SortedBeside from to ps₁ ts₁ ps₂ ts₂ → length ps₂ ≡ length ps → length ns₁ ≡ length ps
-          → TimedTo k a s p t used ns ps ts ns₁ ps₂ ts₂ (Some (record { rule = Lift; s = s; used = used }))
+          → TimedTo k a s p t used ns ps ts ns₁ ps₂ ts₂ (Ok (record { rule = Lift; s = s; used = used }))
       higher_timed ps₂ ts₂ sorted lp ln =
           let t0 : ℕ → ℕ = t0_after t p (take used (rows_of ns ps)) ts in
           let O = others at used ps in
@@ -576,7 +577,7 @@ module _ (k a s p t at used : ℕ) (ns ps ts : List ℕ) (R : TimedReady k a s p
       → gone ≡ count (λ n. leb n 0) (take (used - 1) ns₁)
       → ys ≡ first_dropped gone (take used ps₁) → ms ≡ first_dropped gone (take used ns₁) → zs ≡ first_dropped gone (take used ts₁)
       → TimedTo k a s p t used ns ps ts (ms ++ drop used ns₁) (ys ++ drop used ps₁) (zs ++ drop used ts₁)
-      (Some (record { rule = Lift; s = s; used = used - gone }))
+      (Ok (record { rule = Lift; s = s; used = used - gone }))
   lowest_lifted ns₁ ps₁ ts₁ gone ms ys zs one T eg ey em ez = lowest_timed ns₁ ps₁ ts₁ (rw one T) gone ms ys zs one eg ey em ez
 
 -- as many as are counted fit

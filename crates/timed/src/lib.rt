@@ -4,6 +4,7 @@
 
 ghost use Rattle.timed.specs.Timed.{ReadyFor, ServedAs};
 
+use paging::RuleApplied;
 use table::Stepped;
 
 pub mod joining;
@@ -22,13 +23,13 @@ pub struct Asked {
 }
 
 // Serves a request for a page whose first place among the used ones is `at`, `used` if it has none. A page that had no row gets the time. Where the
-// table has no room, nothing is done.
+// table has no room, nothing is done, and the error is the rule that would apply.
 pub fn step(
     asked: Asked,
     pages: &mut [u32],
     numbers: &mut [u32],
     times: &mut [u32],
-) -> Option<Stepped>
+) -> Result<Stepped, RuleApplied>
     requires { ReadyFor asked numbers.old pages.old times.old }
     ensures { ServedAs asked numbers.old pages.old times.old
         numbers.new pages.new times.new result }
