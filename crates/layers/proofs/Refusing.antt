@@ -4,7 +4,8 @@ use native.Mathlib.Omega.{arith}
 use mathlib.Core.Bool.{true, false, not}
 use mathlib.Core.List.{List}
 use mathlib.Core.Path.{◌≡◌, refl, sym, ap, ◌∙◌}
-use Rattle.std.specs.Prelude.{Option, Some, None, is_none}
+use Rattle.std.specs.Prelude.{Option, Some, None, Result, Ok, Err, is_err}
+use Rattle.std.specs.Result.{result_ok, MatchResult}
 use lib.Dec.{eqb}
 use lib.ListN.{length}
 use borrow.Author.Tests.{eq-eqb, ne_eqb, eqb-true, leb-true, not-false}
@@ -14,6 +15,7 @@ use Rattle.paging.specs.Layers.{top_after}
 use Rattle.paging.specs.Refusals.{sizes_refusal, SizesRight, refuse}
 use Rattle.paging.specs.Rows.{rows_of, numbers_of, pages_of, used_rows, table_of}
 use Rattle.paging.specs.Table.{rule_in}
+use Rattle.paging.specs.declared.applied.RuleApplied.{RuleApplied}
 use Rattle.paging.proofs.Refusals.{zero_pass, Chain, chain_end, chain_refuse, chain_behind, chain_fall, sizes_chain, sizes_pass, sizes_fall, sizes_rest, sizes_taken}
 use Rattle.paging.proofs.Rows.{numbers_back, pages_back}
 use Rattle.table.specs.Serving.{Sound, SteppedTo}
@@ -30,6 +32,23 @@ use Rattle.layers.proofs.WellFormed.{facts, well_table, well_counts}
 pub none_left : {A : Type 0} (o : Option A) → ((x : A) → o ≡ Some x → ⊥) → o ≡ None
 none_left None h = refl
 none_left (Some x) h = absurd (h x refl)
+
+pub ok_none : {T E : Type 0} (r : Result T E) → result_ok r ≡ None → is_err r ≡ true
+ok_none (Ok x) e = cc
+ok_none (Err y) e = refl
+
+pub ok_some : {T E : Type 0} (r : Result T E) (x : T) → result_ok r ≡ Some x → r ≡ Ok x
+ok_some (Ok y) x e = cc
+ok_some (Err y) x e = cc
+
+-- the same after `map_err`
+pub err_mapped : {T E D : Type 0} (r : Result T E) (y : D) (Q : E → Type 0) → MatchResult r (λ x. Err y ≡ Ok x) Q → (is_err r ≡ true) × (e : E) × Q e
+err_mapped (Ok x) y Q h = cc
+err_mapped (Err e) y Q h = (refl, e, h)
+
+pub ok_mapped : {T E D : Type 0} (r : Result T E) (s : Result T D) (y : T) (Q : E → Type 0) → s ≡ Ok y → ((e : E) → Q e → ⊥) → MatchResult r (λ x. s ≡ Ok x) Q → r ≡ Ok y
+ok_mapped (Ok x) s y Q t n h = cc
+ok_mapped (Err e) s y Q t n h = absurd (n e h)
 
 -- The state
 
@@ -121,32 +140,32 @@ module _ (run : LayersRun) (pages numbers : List ℕ) (p : ℕ) where
     unfolding request_refusal
     request_last e = state_pass run pages numbers (state_ready run pages numbers z) _ ∙ rw (eq-eqb run.requests 4294967295 e)
 
-    module _ (more : run.requests ≡ 4294967295 → ⊥) (r : Option Stepped) (rows' : List Row)
+    module _ (more : run.requests ≡ 4294967295 → ⊥) (r : Result Stepped RuleApplied) (rows' : List Row)
         (t : SteppedTo run.k run.a run.s p (length pages) (rows_of numbers pages) rows' r) where
-      request_judged : request_refusal run pages numbers p ≡ refuse (is_none r) 10 0
+      request_judged : request_refusal run pages numbers p ≡ refuse (is_err r) 10 0
       unfolding request_refusal
       request_judged =
           state_pass run pages numbers (state_ready run pages numbers z) _
           ∙ rw (ne_eqb run.requests 4294967295 more, used_rows_lem run.k run.a run.s p (rows_of numbers pages), t.full_told)
 
     -- refused for want of places: the table is as it was
-    pub request_full : (more : run.requests ≡ 4294967295 → ⊥) (rows' : List Row)
-        → SteppedTo run.k run.a run.s p (length pages) (rows_of numbers pages) rows' None
+    pub request_full : (more : run.requests ≡ 4294967295 → ⊥) (r : Result Stepped RuleApplied) (rows' : List Row) → is_err r ≡ true
+        → SteppedTo run.k run.a run.s p (length pages) (rows_of numbers pages) rows' r
         → (request_refusal run pages numbers p ≡ 10) × (rows' ≡ rows_of numbers pages)
-    request_full more rows' t = (request_judged more None rows' t, t.rows_told)
+    request_full more r rows' f t = (request_judged more r rows' t ∙ rw f, t.rows_told ∙ rw f)
 
     -- served
     pub request_served : (more : run.requests ≡ 4294967295 → ⊥) (d : Stepped) (pages' numbers' : List ℕ)
-        → SteppedTo run.k run.a run.s p (length pages) (rows_of numbers pages) (rows_of numbers' pages') (Some d) → length pages' ≡ length numbers'
+        → SteppedTo run.k run.a run.s p (length pages) (rows_of numbers pages) (rows_of numbers' pages') (Ok d) → length pages' ≡ length numbers'
         → (reply_by (rule_of d.rule) d.s run ≡ request_reply run pages numbers p)
         × (pages' ≡ pages_next run pages numbers p) × (numbers' ≡ numbers_next run pages numbers p)
     unfolding request_reply pages_next numbers_next
     request_served more d pages' numbers' t l =
-        let free : request_refusal run pages numbers p ≡ 0 = request_judged more (Some d) (rows_of numbers' pages') t in
+        let free : request_refusal run pages numbers p ≡ 0 = request_judged more (Ok d) (rows_of numbers' pages') t in
         let table : rows_of numbers' pages' ≡ table_of (length pages) (rows_next run p (rows_of numbers pages)) =
         t.rows_told ∙ rw (used_rows_lem run.k run.a run.s p (rows_of numbers pages)) in
         let rule : rule_of d.rule ≡ rule_in run.k run.s p (used_rows (rows_of numbers pages)) =
-        t.done_told.rule_told ∙ sym (used_rule run.k run.s p (rows_of numbers pages)) in
+        t.rule_told ∙ sym (used_rule run.k run.s p (rows_of numbers pages)) in
         let top : d.s ≡ top_after (rule_in run.k run.s p (used_rows (rows_of numbers pages))) run.k run.a run.s =
         t.done_told.top_told ∙ rw (used_rule run.k run.s p (rows_of numbers pages)) in (
           rw (free, rule, top),

@@ -6,7 +6,7 @@ use native.Mathlib.Omega.{arith}
 use mathlib.Core.Bool.{Bool, true, false}
 use mathlib.Core.List.{List, [], ◌∷◌, ◌++◌, append_assoc}
 use mathlib.Core.Path.{◌≡◌, refl, sym, ap, ◌∙◌}
-use Rattle.std.specs.Prelude.{Option, Some, None, is_none, IfSome}
+use Rattle.std.specs.Prelude.{Some, None, Result, Ok, Err, is_err, IfOk}
 use Rattle.std.specs.List.{list_all}
 use lib.Dec.{eqb, ltb}
 use lib.ListN.{length, take, drop, get_or, replicate, length-append, length-replicate, drop_of_length-le}
@@ -25,6 +25,7 @@ use Rattle.paging.proofs.Forming.{FormedRows, no_rows_formed, request_forms, one
 use Rattle.paging.proofs.Refusals.{trace_fall, trace_pass}
 use Rattle.paging.proofs.Rows.{rows_take, rows_drop, rows_append}
 use Rattle.table.specs.Filling.{TableFilled}
+use Rattle.paging.specs.declared.applied.RuleApplied.{RuleApplied}
 use Rattle.table.specs.Serving.{Sound, DoneBy, SteppedTo}
 use Rattle.table.specs.declared.Stepped.{Stepped}
 use Rattle.table.proofs.Serving.{used_rows_lem, used_rule}
@@ -92,21 +93,21 @@ module _ (k a : ℕ) (trace : List ℕ) (places : ℕ) (rows : List Row) (s join
         served_told = record { rows_told = rw all Y.shape; s_told = rw all refl; joins_told = rw all refl };
       }
 
-  module _ (h : i < length trace) (after : List Row) (r : Option Stepped) (told : SteppedTo k a s (get_or trace i 0) places rows after r) where
+  module _ (h : i < length trace) (after : List Row) (r : Result Stepped RuleApplied) (told : SteppedTo k a s (get_or trace i 0) places rows after r) where
     trace_next : drop i trace ≡ get_or trace i 0 ∷ drop (suc i) trace
     trace_next = drop-cons trace i 0 h
 
-    room_told : is_none r ≡ ltb places (length (rows_after k a s (get_or trace i 0) (used_rows rows)))
+    room_told : is_err r ≡ ltb places (length (rows_after k a s (get_or trace i 0) (used_rows rows)))
     room_told = told.full_told ∙ ap (λ (l : List Row). ltb places (length l)) (sym (used_rows_lem k a s (get_or trace i 0) rows))
 
-    pub too_full : is_none r ≡ true → ServedTo k a trace places after None
+    pub too_full : is_err r ≡ true → ServedTo k a trace places after None
     too_full f =
         let z : overflows k a places (drop i trace) (tabled_in rows s joins)
         ≡ ltb places (length (rows_after k a s (get_or trace i 0) (used_rows rows))) or overflows k a places (drop (suc i) trace) (tabled_next k a (get_or trace i 0) (tabled_in rows s joins))
         = ap (λ (l : List ℕ). overflows k a places l (tabled_in rows s joins)) trace_next in
         record { full_told = or_full _ _ (sym room_told ∙ f) ∙ sym (Y.full_left ∙ z); served_told = tt }
 
-  module _ (h : i < length trace) (after : List Row) (r : Stepped) (told : SteppedTo k a s (get_or trace i 0) places rows after (Some r)) where
+  module _ (h : i < length trace) (after : List Row) (r : Stepped) (told : SteppedTo k a s (get_or trace i 0) places rows after (Ok r)) where
     pub joins_fit : (bundles : ℕ) → length trace ≤ 65536 → bundles ≡ bit (is_join (rule_of r.rule)) → joins + bundles < 4294967296
     joins_fit bundles few b = omega (arith, Y.few, one_bundle (is_join (rule_of r.rule)))
 
@@ -114,7 +115,7 @@ module _ (k a : ℕ) (trace : List ℕ) (places : ℕ) (rows : List Row) (s join
         → ServedSoFar k a trace places after r.s (joins + bundles) r.used (i + 1)
     goes_on bundles b =
         let p = get_or trace i 0 in
-        let room = room_told h after (Some r) told in
+        let room = room_told h after (Ok r) told in
         let same : rows_after k a s p (used_rows rows) ≡ rows_after k a s p rows = used_rows_lem k a s p rows in
         let rule : rule_in k s p (used_rows rows) ≡ rule_in k s p rows = used_rule k s p rows in
         let top : r.s ≡ top_after (rule_in k s p (used_rows rows)) k a s = told.done_told.top_told ∙ rw rule refl in
@@ -123,7 +124,7 @@ module _ (k a : ℕ) (trace : List ℕ) (places : ℕ) (rows : List Row) (s join
         let table : after ≡ table_of places (rows_after k a s p (used_rows rows)) = told.rows_told ∙ rw same refl in
         let used-rows-are : used_rows after ≡ rows_after k a s p (used_rows rows) = rw table (used_table places _ formed.above) in
         let joined : joins + bundles ≡ joins + bit (is_join (rule_in k s p (used_rows rows)))
-        = ap (λ (n : ℕ). joins + n) (b ∙ ap (λ (x : LayerRule). bit (is_join x)) (told.done_told.rule_told ∙ sym rule)) in
+        = ap (λ (n : ℕ). joins + n) (b ∙ ap (λ (x : LayerRule). bit (is_join x)) (told.rule_told ∙ sym rule)) in
         let state : tabled_in after r.s (joins + bundles) ≡ tabled_next k a p (tabled_in rows s joins) = rw (used-rows-are, top, joined) refl in
         let count : r.used ≡ length (rows_after k a s p (used_rows rows)) = told.done_told.used_told ∙ ap (λ (l : List Row). length l) (sym same) in
         let space : length (rows_after k a s p (used_rows rows)) ≤ places = ltb-false _ _ (sym room) in
@@ -135,8 +136,8 @@ module _ (k a : ℕ) (trace : List ℕ) (places : ℕ) (rows : List Row) (s join
           few = omega (arith, Y.few, one_bundle (is_join (rule_of r.rule)));
           formed = rw used-rows-are formed;
           shape = table ∙ ap (table_of places) (sym used-rows-are);
-          left = Y.left ∙ rw (trace_next h after (Some r) told, add-one i, state) refl;
-          full_left = Y.full_left ∙ rw (trace_next h after (Some r) told, add-one i, state) (or_of _ _ (sym room));
+          left = Y.left ∙ rw (trace_next h after (Ok r) told, add-one i, state) refl;
+          full_left = Y.full_left ∙ rw (trace_next h after (Ok r) told, add-one i, state) (or_of _ _ (sym room));
         }
 
 -- A request sees a prefix of the table alone, behind which all is unused
@@ -168,7 +169,7 @@ same_test m places n used h e g =
     t_true : places < n → ltb m n ≡ true
     t_true l = lt-ltb m n (omega arith)
 
-module _ (k a s p places used m : ℕ) (rows before after : List Row) (r : Option Stepped) (shape : rows ≡ table_of places (used_rows rows)) (above : size_of 0 (used_rows rows) ≡ 0)
+module _ (k a s p places used m : ℕ) (rows before after : List Row) (r : Result Stepped RuleApplied) (shape : rows ≡ table_of places (used_rows rows)) (above : size_of 0 (used_rows rows) ≡ 0)
     (counted : used ≡ length (used_rows rows)) (fits : used ≤ places) (m-is : m ≡ min (used + 1) places) (cut : before ≡ take m rows) (told : SteppedTo k a s p m before after r) where
   part_is : rows ≡ table_of m (used_rows rows) ++ replicate (places - m) unused
   part_is = shape ∙ table_parts (used_rows rows) m places (omega arith) (omega arith)
@@ -192,12 +193,12 @@ module _ (k a s p places used m : ℕ) (rows before after : List Row) (r : Optio
   few : length (rows_after k a s p rows) ≤ used + 1
   few = rw counted (rw (used_rows_lem k a s p rows) at (one_row_more k a s p (used_rows rows)))
 
-  full_is : is_none r ≡ ltb places (length (rows_after k a s p rows))
+  full_is : is_err r ≡ ltb places (length (rows_after k a s p rows))
   full_is = told.full_told ∙ rw same_rows (same_test m places (length (rows_after k a s p rows)) used few m-is fits)
 
-  together : after ++ drop m rows ≡ pick (is_none r) rows (table_of places (rows_after k a s p rows))
+  together : after ++ drop m rows ≡ pick (is_err r) rows (table_of places (rows_after k a s p rows))
   together =
-      cases (is_none r)
+      cases (is_err r)
       (λ t. let same : after ≡ before = told.rows_told ∙ rw t refl in rw (t, same, cut) (take_drop_rows rows m))
       (λ f. let new : after ≡ table_of m (rows_after k a s p rows) = told.rows_told ∙ rw (f, same_rows) refl in
       let n : length (rows_after k a s p rows) ≤ m = ltb-false m (length (rows_after k a s p rows)) (ap (λ (l : List Row). ltb m (length l)) (sym same_rows) ∙ sym told.full_told ∙ f) in
@@ -211,16 +212,17 @@ module _ (k a s p places used m : ℕ) (rows before after : List Row) (r : Optio
   pub stepped_whole : SteppedTo k a s p places rows (after ++ drop m rows) r
   stepped_whole = record {
     full_told = full_is;
+    rule_told = told.rule_told ∙ same_rule;
     rows_told = together;
     done_told = done r told.done_told;
   }
     where
-      done : (o : Option Stepped) → IfSome o (λ t. DoneBy k a s p before t) → IfSome o (λ t. DoneBy k a s p rows t)
-      done None d = tt
-      done (Some t) d = record { rule_told = d.rule_told ∙ same_rule; top_told = d.top_told ∙ rw same_rule refl; used_told = d.used_told ∙ rw same_rows refl }
+      done : (o : Result Stepped RuleApplied) → IfOk o (λ t. DoneBy k a s p before t) → IfOk o (λ t. DoneBy k a s p rows t)
+      done (Err rule) d = tt
+      done (Ok t) d = record { top_told = d.top_told ∙ rw same_rule refl; used_told = d.used_told ∙ rw same_rows refl }
 
 -- the same on the two lists
-pub stepped_lists : (k a : ℕ) (trace : List ℕ) (s p joins used i places m n : ℕ) (ns ps ns' ps' : List ℕ) (r : Option Stepped) → length ps ≡ places → length ns ≡ length ps
+pub stepped_lists : (k a : ℕ) (trace : List ℕ) (s p joins used i places m n : ℕ) (ns ps ns' ps' : List ℕ) (r : Result Stepped RuleApplied) → length ps ≡ places → length ns ≡ length ps
     → ServedSoFar k a trace places (rows_of ns ps) s joins used i → m ≡ min (used + 1) (length ps) → n ≡ length (take m ps) → length ps' ≡ length (take m ps)
     → length ns' ≡ length (take m ns)
     → SteppedTo k a s p n (rows_of (take m ns) (take m ps)) (rows_of ns' ps') r

@@ -128,7 +128,8 @@ pub fn request(
     if run.requests == LayersRun::COUNTER_MAX {
         return Err(Refusal::CounterFull);
     }
-    let stepped = table::step(run.k, run.a, run.s, page, pages, numbers).ok_or(Refusal::TableFull)?;
+    let served = table::step(run.k, run.a, run.s, page, pages, numbers);
+    let stepped = served.map_err(|_| Refusal::TableFull)?;
     Ok(LayersReply {
         run: run.counted(stepped.rule, stepped.s),
         rule: stepped.rule,

@@ -34,7 +34,15 @@ pub(crate) fn serve_all(
     let mut used = 0;
     for page in trace {
         let m = pages.len().min(used + 1);
-        let stepped = table::quick::step(k, a, s, *page, &mut pages[..m], &mut numbers[..m], used)?;
+        let stepped = table::quick::step(
+            k,
+            a,
+            s,
+            *page,
+            &mut pages[..m],
+            &mut numbers[..m],
+            used,
+        ).ok()?;
         joins += stepped.rule.bundles();
         s = stepped.s;
         used = stepped.used;

@@ -1,11 +1,12 @@
 use native.Mathlib.Omega.{arith}
-use mathlib.Core.Path.{◌≡◌, sym, ap, ◌∙◌}
+use mathlib.Core.Path.{◌≡◌, refl, sym, ap, ◌∙◌}
 use Rattle.std.specs.Prelude.{Err}
+use Rattle.std.proofs.Common.{rules, tests}
 use Rattle.std.proofs.lemmas.Result.{err_from_is_err_and}
 use Rattle.paging.specs.Numbers.{number_of}
 use Rattle.paging.specs.declared.reasons.Refusal.TheVariants.{TableFull}
 use Rattle.paging.proofs.Numbers.{number_above}
-use Rattle.layers.proofs.Refusing.{state_ready, sound, counters_fit, request_refused, request_state, request_last, request_full, request_served, pages_same, numbers_same}
+use Rattle.layers.proofs.Refusing.{err_mapped, ok_mapped, state_ready, sound, counters_fit, request_refused, request_state, request_last, request_full, request_served, pages_same, numbers_same}
 use Rattle.layers.proofs.request.Goals as goal
 
 pub returns-in_err-check_state : goal.returns-in_err-check_state
@@ -24,8 +25,8 @@ returns-then-run-eq-COUNTER_MAX c =
     request_refused args.run args.pages.now args.numbers.now args.page 12
     (request_last args.run args.pages.now args.numbers.now args.page (sym c.in_ok-check_state.ensures) c.if-run-eq-COUNTER_MAX.true) (λ e. omega arith)
 
-pub step-requires : goal.step-requires
-step-requires c =
+pub step-served-requires : goal.step-served-requires
+step-served-requires c =
     let args = c.args in
     let r = state_ready args.run args.pages.now args.numbers.now (sym c.in_ok-check_state.ensures) in
     (r.even, sound args.run args.pages.now args.numbers.now r)
@@ -33,19 +34,18 @@ step-requires c =
 pub returns-in_err-stepped : goal.returns-in_err-stepped
 returns-in_err-stepped c =
     let args = c.args in
-    let step = c.step in
+    let step = c.step-served in
     let r = err_from_is_err_and c.from_residual-in_err-stepped.result c.from_residual-in_err-stepped.ensures.1 in
-    let none = c.in_err-stepped.ensures.ok_part in
-    let told = rw none at c.in_err-stepped.ensures.value in
-    let reason : c.in_err-stepped.field-0.0 ≡ TableFull = cc in
+    let full = err_mapped step.result c.in_err-stepped.field-0.0 _ c.in_err-stepped.ensures.cases in
+    let reason : c.in_err-stepped.field-0.0 ≡ TableFull = search (rules, tests) in
     let e : c.from_residual-in_err-stepped.result ≡ Err TableFull = r.1 ∙ ap Err (r.2 ∙ reason) in
     let z = sym c.in_ok-check_state.ensures in
     let even = (state_ready args.run args.pages.now args.numbers.now z).even in
-    let full = request_full args.run args.pages.now args.numbers.now args.page z c.if-run-eq-COUNTER_MAX.false _ (rw none at step.ensures) in
-    let t = request_refused args.run args.pages.now args.numbers.now args.page 10 full.0 (λ e. omega arith) in (
+    let kept = request_full args.run args.pages.now args.numbers.now args.page z c.if-run-eq-COUNTER_MAX.false step.result _ full.0 step.ensures in
+    let t = request_refused args.run args.pages.now args.numbers.now args.page 10 kept.0 (λ e. omega arith) in (
       rw e t.0,
-      pages_same args.numbers.now args.pages.now step.new.numbers step.new.pages even (omega arith) full.1 ∙ t.1,
-      numbers_same args.numbers.now args.pages.now step.new.numbers step.new.pages even (omega arith) full.1 ∙ t.2,
+      pages_same args.numbers.now args.pages.now step.new.numbers step.new.pages even (omega arith) kept.1 ∙ t.1,
+      numbers_same args.numbers.now args.pages.now step.new.numbers step.new.pages even (omega arith) kept.1 ∙ t.2,
     )
 
 pub counted-requires : goal.counted-requires
@@ -57,9 +57,9 @@ counted-requires c =
 pub returns : goal.returns
 returns c =
     let args = c.args in
-    let step = c.step in
+    let step = c.step-served in
     let z = sym c.in_ok-check_state.ensures in
     let even = (state_ready args.run args.pages.now args.numbers.now z).even in
     let t = request_served args.run args.pages.now args.numbers.now args.page z c.if-run-eq-COUNTER_MAX.false _ step.new.pages step.new.numbers
-    (rw c.in_ok-stepped.ensures.ok_part at step.ensures) (omega arith) in
+    (rw (ok_mapped step.result _ c.in_ok-stepped.stepped _ refl (λ _ h. h) c.in_ok-stepped.ensures.cases) at step.ensures) (omega arith) in
     (rw c.counted.ensures t.0, t.1, t.2)

@@ -1,7 +1,8 @@
 use native.Mathlib.Omega.{arith}
 use mathlib.Core.Path.{refl, sym}
 use lib.ListN.{length-take, length-append, length-drop}
-use Rattle.std.specs.Prelude.{Some, None}
+use Rattle.std.specs.Prelude.{Ok}
+use Rattle.layers.proofs.Refusing.{ok_none, ok_some}
 use Rattle.layers.proofs.TraceLaws.{nothing_served, too_full, goes_on, stepped_lists, filled_prefix}
 use Rattle.layers.proofs.trace.serve_all.Goals as goal
 
@@ -26,9 +27,9 @@ returns-in_err-stepped c =
     let step = c.step in
     let least = c.min-m.ensures in
     rw c.from_residual.ensures
-    (too_full _ _ _ _ _ _ _ _ _ inv.2 c.loop-page-test.true _ None
+    (too_full _ _ _ _ _ _ _ _ _ inv.2 c.loop-page-test.true _ step.result
     (stepped_lists args.k args.a args.trace.now turn.s _ turn.joins turn.used turn.page-index _ c.min-m.result _ turn.numbers turn.pages step.new.numbers step.new.pages
-    None inv.0 inv.1 inv.2 (omega arith) refl step.auto.pages step.auto.numbers c.in_err-stepped.ensures) refl)
+    step.result inv.0 inv.1 inv.2 (omega arith) refl step.auto.pages step.auto.numbers step.ensures) (ok_none step.result (sym c.in_err-stepped.ensures.value)))
 
 pub loop-page-preserved : goal.loop-page-preserved
 loop-page-preserved c =
@@ -43,6 +44,7 @@ loop-page-preserved c =
       simp (length-append, length-drop) (omega (arith, simp length-take at l, simp length-take at n)),
       goes_on _ _ _ _ _ _ _ _ _ inv.2 c.loop-page-test.true _ c.in_ok-stepped.stepped
           (stepped_lists args.k args.a args.trace.now turn.s _ turn.joins turn.used turn.page-index _ c.min-m.result _ turn.numbers turn.pages step.new.numbers step.new.pages
-          (Some c.in_ok-stepped.stepped) inv.0 inv.1 inv.2 (omega arith) refl step.auto.pages step.auto.numbers c.in_ok-stepped.ensures)
+          (Ok c.in_ok-stepped.stepped) inv.0 inv.1 inv.2 (omega arith) refl step.auto.pages step.auto.numbers
+          (rw (ok_some step.result c.in_ok-stepped.stepped (sym c.in_ok-stepped.ensures.value)) at step.ensures))
           _ c.bundles-joins.ensures,
     )
