@@ -3,11 +3,11 @@
 use Prim.Native.Nat.{ℕ, zero, suc, ◌+◌, ◌-◌, ◌≤◌, ◌<◌, min}
 use native.Mathlib.Numerals.{add-one}
 use native.Mathlib.Omega.{arith}
-use mathlib.Core.Bool.{Bool, true, false}
+use mathlib.Core.Bool.{Bool, true, false, ◌&&◌}
 use mathlib.Core.List.{List, [], ◌∷◌, ◌++◌, append_assoc}
 use mathlib.Core.Path.{◌≡◌, refl, sym, ap, ◌∙◌}
 use Rattle.std.specs.Prelude.{Some, None, Result, Ok, Err, is_err, IfOk}
-use Rattle.std.specs.List.{list_all}
+use Rattle.std.specs.List.{list_all, zip}
 use lib.Dec.{eqb, ltb}
 use lib.ListN.{length, take, drop, get_or, replicate, length-append, length-replicate, drop_of_length-le}
 use lib.Seq.{drop-cons, take_at, drop_at, length-take-le}
@@ -16,7 +16,7 @@ use Rattle.paging.specs.Numbers.{rule_of}
 use Rattle.lists.specs.Choice.{pick, ◌and◌, ◌or◌}
 use Rattle.lists.specs.Pages.{bit}
 use Rattle.lists.specs.Sorting.{Row}
-use Rattle.lists.proofs.Choice.{cases, clash, and_false_l, and_false_r}
+use Rattle.lists.proofs.Choice.{cases}
 use Rattle.paging.specs.Layers.{LayerRule, is_join, top_after}
 use Rattle.paging.specs.Refusals.{trace_refusal}
 use Rattle.paging.specs.Rows.{rows_of, unused, used_rows, table_of}
@@ -258,24 +258,14 @@ filled_prefix k a trace s joins used i places m ns ps size len Y m-is =
 
 -- The look for unused places
 
-pub blank_numbers : (ns ps : List ℕ) → length ps ≡ length ns → list_all (λ n. eqb n 0) ns ≡ false → false ≡ all_unused (rows_of ns ps)
-unfolding is_unused
-blank_numbers [] ps e z = clash true refl z
-blank_numbers (n ∷ ns) [] e z = absurd (omega (arith, e))
-blank_numbers (n ∷ ns) (p ∷ ps) e z =
-    cases (eqb n 0)
-    (λ t. let rest = blank_numbers ns ps (omega (arith, e)) (rw t at z) in sym (and_false_r _ _ (sym rest)))
-    (λ t. sym (and_false_l _ _ (and_false_l _ _ t)))
-
-pub blank_pages : (ns ps : List ℕ) → length ps ≡ length ns → list_all (λ n. eqb n 0) ns ≡ true → list_all (λ p. eqb p 0) ps ≡ all_unused (rows_of ns ps)
+pub blank_places : (ns ps : List ℕ) → list_all (λ x. eqb x.0 0 && eqb x.1 0) (zip ns ps) ≡ all_unused (rows_of ns ps)
 unfolding is_unused ◌and◌
-blank_pages [] [] e z = refl
-blank_pages [] (p ∷ ps) e z = absurd (omega (arith, e))
-blank_pages (n ∷ ns) [] e z = absurd (omega (arith, e))
-blank_pages (n ∷ ns) (p ∷ ps) e z =
+blank_places [] ps = refl
+blank_places (n ∷ ns) [] = refl
+blank_places (n ∷ ns) (p ∷ ps) =
     cases (eqb n 0)
-    (λ t. let rest = blank_pages ns ps (omega (arith, e)) (rw t at z) in cases (eqb p 0) (λ u. rw (t, u) rest) (λ u. rw (t, u) refl))
-    (λ t. clash false (rw t at z) refl)
+    (λ t. cases (eqb p 0) (λ u. rw (t, u) (blank_places ns ps)) (λ u. rw (t, u) refl))
+    (λ t. rw t refl)
 
 -- The refusals judged before the first request
 

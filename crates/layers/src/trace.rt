@@ -55,7 +55,7 @@ fn all_unused(pages: &[u32], numbers: &[u32]) -> bool
     requires { length pages.now ≡ length numbers.now }
     ensures { result ≡ all_unused (rows_of numbers.now pages.now) }
 {
-    numbers.iter().all(|n| *n == 0) && pages.iter().all(|p| *p == 0)
+    numbers.iter().zip(pages).all(|(n, p)| *n == 0 && *p == 0)
 }
 
 // The refusals that are judged before the first request, in order: 1, 2, 3, 8, 9.
