@@ -59,23 +59,23 @@ pub record StateReady (run : LayersRun) (pages numbers : List ℕ) : Type 0 wher
   pub formed : layers_well_formed run (rows_of numbers pages) ≡ true
 
 module _ (run : LayersRun) (pages numbers : List ℕ) where
-  pub state_sizes : (number : ℕ) → number ≡ sizes_refusal run.k run.a 0 → (number ≡ 0 → ⊥) → number ≡ state_refusal run pages numbers 0
+  pub state_sizes : (rest number : ℕ) → number ≡ sizes_refusal run.k run.a 0 → (number ≡ 0 → ⊥) → number ≡ state_refusal run pages numbers rest
   unfolding state_refusal
-  state_sizes number e n = sym (sizes_fall run.k run.a _ number e n)
+  state_sizes rest number e n = sym (sizes_fall run.k run.a _ number e n)
 
-  pub state_uneven : 0 ≡ sizes_refusal run.k run.a 0 → (length pages ≡ length numbers → ⊥) → 8 ≡ state_refusal run pages numbers 0
+  pub state_uneven : (rest : ℕ) → 0 ≡ sizes_refusal run.k run.a 0 → (length pages ≡ length numbers → ⊥) → 8 ≡ state_refusal run pages numbers rest
   unfolding state_refusal
-  state_uneven z u = sym (sizes_pass run.k run.a _ (sym z) ∙ rw (ne_eqb (length pages) (length numbers) u))
+  state_uneven rest z u = sym (sizes_pass run.k run.a _ (sym z) ∙ rw (ne_eqb (length pages) (length numbers) u))
 
-  pub state_ill : 0 ≡ sizes_refusal run.k run.a 0 → length pages ≡ length numbers → false ≡ layers_well_formed run (rows_of numbers pages)
-      → 9 ≡ state_refusal run pages numbers 0
+  pub state_ill : (rest : ℕ) → 0 ≡ sizes_refusal run.k run.a 0 → length pages ≡ length numbers → false ≡ layers_well_formed run (rows_of numbers pages)
+      → 9 ≡ state_refusal run pages numbers rest
   unfolding state_refusal
-  state_ill z u w = sym (sizes_pass run.k run.a _ (sym z) ∙ rw (eq-eqb (length pages) (length numbers) u, ← w))
+  state_ill rest z u w = sym (sizes_pass run.k run.a _ (sym z) ∙ rw (eq-eqb (length pages) (length numbers) u, ← w))
 
-  pub state_none : 0 ≡ sizes_refusal run.k run.a 0 → length pages ≡ length numbers → true ≡ layers_well_formed run (rows_of numbers pages)
-      → 0 ≡ state_refusal run pages numbers 0
+  pub state_none : (rest : ℕ) → 0 ≡ sizes_refusal run.k run.a 0 → length pages ≡ length numbers → true ≡ layers_well_formed run (rows_of numbers pages)
+      → rest ≡ state_refusal run pages numbers rest
   unfolding state_refusal
-  state_none z u w = sym (sizes_pass run.k run.a _ (sym z) ∙ rw (eq-eqb (length pages) (length numbers) u, ← w))
+  state_none rest z u w = sym (sizes_pass run.k run.a _ (sym z) ∙ rw (eq-eqb (length pages) (length numbers) u, ← w))
 
   pub state_pass : StateReady run pages numbers → (rest : ℕ) → state_refusal run pages numbers rest ≡ rest
   unfolding state_refusal

@@ -270,20 +270,22 @@ blank_places (n ∷ ns) (p ∷ ps) =
 -- The refusals judged before the first request
 
 module _ (k a : ℕ) (trace pages numbers : List ℕ) where
-  pub early_trace : (number : ℕ) → number ≡ trace_refusal k a trace 0 → (number ≡ 0 → ⊥) → number ≡ early_refusal k a trace pages numbers 0
+  pub early_trace : (rest number : ℕ) → number ≡ trace_refusal k a trace 0 → (number ≡ 0 → ⊥) → number ≡ early_refusal k a trace pages numbers rest
   unfolding early_refusal
-  early_trace number e n = sym (trace_fall k a trace _ number e n)
+  early_trace rest number e n = sym (trace_fall k a trace _ number e n)
 
-  pub early_uneven : 0 ≡ trace_refusal k a trace 0 → (length pages ≡ length numbers → ⊥) → 8 ≡ early_refusal k a trace pages numbers 0
+  pub early_uneven : (rest : ℕ) → 0 ≡ trace_refusal k a trace 0 → (length pages ≡ length numbers → ⊥) → 8 ≡ early_refusal k a trace pages numbers rest
   unfolding early_refusal
-  early_uneven z u = sym (trace_pass k a trace _ (sym z) ∙ rw (ne_eqb (length pages) (length numbers) u) refl)
+  early_uneven rest z u = sym (trace_pass k a trace _ (sym z) ∙ rw (ne_eqb (length pages) (length numbers) u) refl)
 
-  pub early_used : 0 ≡ trace_refusal k a trace 0 → length pages ≡ length numbers → false ≡ all_unused (rows_of numbers pages) → 9 ≡ early_refusal k a trace pages numbers 0
+  pub early_used : (rest : ℕ) → 0 ≡ trace_refusal k a trace 0 → length pages ≡ length numbers → false ≡ all_unused (rows_of numbers pages)
+      → 9 ≡ early_refusal k a trace pages numbers rest
   unfolding early_refusal
-  early_used z u f = sym (trace_pass k a trace _ (sym z) ∙ rw (eq-eqb (length pages) (length numbers) u, ← f) refl)
+  early_used rest z u f = sym (trace_pass k a trace _ (sym z) ∙ rw (eq-eqb (length pages) (length numbers) u, ← f) refl)
 
-  pub early_none : 0 ≡ trace_refusal k a trace 0 → length pages ≡ length numbers → true ≡ all_unused (rows_of numbers pages) → 0 ≡ early_refusal k a trace pages numbers 0
+  pub early_none : (rest : ℕ) → 0 ≡ trace_refusal k a trace 0 → length pages ≡ length numbers → true ≡ all_unused (rows_of numbers pages)
+      → rest ≡ early_refusal k a trace pages numbers rest
   unfolding early_refusal
-  early_none z u f = sym (trace_pass k a trace _ (sym z) ∙ rw (eq-eqb (length pages) (length numbers) u, ← f) refl)
+  early_none rest z u f = sym (trace_pass k a trace _ (sym z) ∙ rw (eq-eqb (length pages) (length numbers) u, ← f) refl)
 
 pub ruleset early_rules = (early_trace, early_uneven, early_used, early_none)
