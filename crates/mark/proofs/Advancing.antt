@@ -6,7 +6,8 @@ use mathlib.Core.List.{List}
 use mathlib.Core.Path.{◌≡◌, refl, sym, ap, ◌∙◌}
 use lib.Dec.{eqb, leb, ltb}
 use lib.ListN.{length, take, drop, get_or}
-use Rattle.std.proofs.Common.{Option, Some, None, is_none}
+use Rattle.std.proofs.Common.{Some, None}
+use Rattle.std.specs.Prelude.{Result, Ok, is_err}
 use Rattle.paging.specs.Numbers.{rule_of}
 use Rattle.lists.specs.Choice.{pick, ◌and◌}
 use Rattle.lists.specs.Places.{place}
@@ -17,7 +18,8 @@ use Rattle.paging.specs.Rows.{rows_of, numbers_of, pages_of, table_of}
 use Rattle.paging.specs.Table.{number_in, rule_in, rows_after}
 use Rattle.paging.proofs.Rows.{pages_back, numbers_back}
 use Rattle.table.specs.Filling.{TableFilled}
-use Rattle.table.specs.Serving.{DoneBy}
+use Rattle.paging.specs.declared.applied.RuleApplied.{RuleApplied}
+use Rattle.table.specs.Serving.{DoneBy, rule_applied}
 use Rattle.table.specs.declared.Stepped as table_stepped
 use Rattle.table.proofs.Serving.{used_rows_lem, used_rule}
 use Rattle.timed.specs.Timed.{TimedReady, TimedTo}
@@ -115,19 +117,22 @@ module _ (k a p : ℕ) (point : TablePoint) (x : Table) (R : TableReady k a poin
 
   -- The table moved on
 
-  module _ (t : ℕ) (numbers' pages' times' : List ℕ) (r : Option table_stepped.Stepped)
+  module _ (t : ℕ) (numbers' pages' times' : List ℕ) (r : Result table_stepped.Stepped RuleApplied)
       (told : TimedTo k a point.s p t point.used x.numbers x.pages x.times numbers' pages' times' r) where
     same_rows : rows_after k a point.s p (rows_used x) ≡ rows_after k a point.s p (rows_of x.numbers x.pages)
     same_rows = used_rows_lem k a point.s p (rows_of x.numbers x.pages)
 
-    pub full_is : is_none r ≡ ltb (length x.pages) (length (rows_after k a point.s p (rows_used x)))
+    pub full_is : is_err r ≡ ltb (length x.pages) (length (rows_after k a point.s p (rows_used x)))
     full_is = told.table.full_told ∙ ap (λ (l : List Row). ltb (length x.pages) (length l)) (sym same_rows)
+
+    pub rule_is : rule_of (rule_applied r) ≡ rule_in k point.s p (rows_used x)
+    rule_is = told.table.rule_told ∙ sym (used_rule k point.s p (rows_of x.numbers x.pages))
 
     even' : length pages' ≡ length numbers'
     even' = told.pages_length ∙ sym told.numbers_length
 
     -- a full table is as it was
-    module _ (full : is_none r ≡ true) where
+    module _ (full : is_err r ≡ true) where
       kept_rows : rows_of numbers' pages' ≡ rows_of x.numbers x.pages
       kept_rows = told.table.rows_told ∙ rw full refl
 
@@ -141,7 +146,7 @@ module _ (k a p : ℕ) (point : TablePoint) (x : Table) (R : TableReady k a poin
       times_kept = told.times_told ∙ rw full refl
 
     -- else it holds the rows after the request
-    module _ (served : is_none r ≡ false) where
+    module _ (served : is_err r ≡ false) where
       rows_are : rows_of numbers' pages' ≡ table_of (length x.pages) (rows_after k a point.s p (rows_used x))
       rows_are = told.table.rows_told ∙ rw (served, same_rows) refl
 
@@ -162,9 +167,6 @@ module _ (k a p : ℕ) (point : TablePoint) (x : Table) (R : TableReady k a poin
 
   -- what a step that was done answers
   module _ (moved : table_stepped.Stepped) (done : DoneBy k a point.s p (rows_of x.numbers x.pages) moved) where
-    pub rule_is : rule_of moved.rule ≡ rule_in k point.s p (rows_used x)
-    rule_is = done.rule_told ∙ sym (used_rule k point.s p (rows_of x.numbers x.pages))
-
     pub top_is : moved.s ≡ top_after (rule_in k point.s p (rows_used x)) k a point.s
     top_is = done.top_told ∙ rw (used_rule k point.s p (rows_of x.numbers x.pages)) refl
 
@@ -183,35 +185,36 @@ module _ (k a p : ℕ) (point : TablePoint) (x : Table) (R : TableReady k a poin
   rank_fits = t0_low k a p point x R at found shown shown_is t time t0 t0-told
 
   module _ (rank : ℕ) (rank-told : rank ≡ 9 * t - t0) (numbers' pages' times' : List ℕ) where
-    pub advanced_none : TimedTo k a point.s p t point.used x.numbers x.pages x.times numbers' pages' times' None
+    pub advanced_none : (r : Result table_stepped.Stepped RuleApplied) → is_err r ≡ true
+        → TimedTo k a point.s p t point.used x.numbers x.pages x.times numbers' pages' times' r
         → AdvancedTo k a p point x (table_with pages' numbers' times') None
-    advanced_none told =
+    advanced_none r full told =
         record {
-          full_told = full_is k a p point x R t numbers' pages' times' None told;
-          table_told = λ i. table_with (pages_kept k a p point x R t numbers' pages' times' None told refl i)
-              (numbers_kept k a p point x R t numbers' pages' times' None told refl i)
-              (times_kept k a p point x R t numbers' pages' times' None told refl i);
+          full_told = sym full ∙ full_is k a p point x R t numbers' pages' times' r told;
+          table_told = λ i. table_with (pages_kept k a p point x R t numbers' pages' times' r told full i)
+              (numbers_kept k a p point x R t numbers' pages' times' r told full i)
+              (times_kept k a p point x R t numbers' pages' times' r told full i);
           done_told = tt;
         }
 
     module _ (moved : table_stepped.Stepped)
-        (told : TimedTo k a point.s p t point.used x.numbers x.pages x.times numbers' pages' times' (Some moved))
+        (told : TimedTo k a point.s p t point.used x.numbers x.pages x.times numbers' pages' times' (Ok moved))
         (joined : Bool) (joined_is : joined ≡ is_join (rule_of moved.rule)) (after : ℕ)
         (after-told : after ≡ pick joined 1 (pick shown point.revealed (point.revealed + 1))) where
       served : table_with pages' numbers' times' ≡ table_served k a p point x
       served =
           let times_is : times' ≡ (table_served k a p point x).times =
-          times_are k a p point x R t numbers' pages' times' (Some moved) told refl ∙ rw (time_is k a p point x R at found shown shown_is t time) refl in
-          λ i. table_with (pages_are k a p point x R t numbers' pages' times' (Some moved) told refl i)
-          (numbers_are k a p point x R t numbers' pages' times' (Some moved) told refl i) (times_is i)
+          times_are k a p point x R t numbers' pages' times' (Ok moved) told refl ∙ rw (time_is k a p point x R at found shown shown_is t time) refl in
+          λ i. table_with (pages_are k a p point x R t numbers' pages' times' (Ok moved) told refl i)
+          (numbers_are k a p point x R t numbers' pages' times' (Ok moved) told refl i) (times_is i)
 
       pub advanced : AdvancedTo k a p point x (table_with pages' numbers' times')
           (Some (record { rule = moved.rule; after = record { s = moved.s; t = t; revealed = after; used = moved.used }; priority = rank }))
       advanced =
           let done = told.table.done_told in
-          let rule = rule_is k a p point x R moved done in
+          let rule = rule_is k a p point x R t numbers' pages' times' (Ok moved) told in
           record {
-            full_told = full_is k a p point x R t numbers' pages' times' (Some moved) told;
+            full_told = full_is k a p point x R t numbers' pages' times' (Ok moved) told;
             table_told = served;
             done_told = record {
               rule_told = rule;

@@ -90,7 +90,7 @@ pub(crate) fn advance(
         at,
         used,
     };
-    let moved = timed::step(asked, pages, numbers, times)?;
+    let moved = timed::step(asked, pages, numbers, times).ok()?;
     let after = TablePoint {
         s: moved.s,
         t,
