@@ -30,11 +30,13 @@ fn told(trace: &[u32], near: u32, page: u32) -> u32
     requires { near ≤ length trace.now }
     ensures { result ≡ told_of trace.now near page }
 {
-    if near > 0 && trace[trace.len() - near as usize] == page {
-        near
-    } else {
-        0
+    if near == 0 {
+        return 0;
     }
+    if trace[trace.len() - near as usize] == page {
+        return near;
+    }
+    0
 }
 
 // Walks the chain of the low half c from its end. `seen` has, by the high half of a page, how near the request seen last is.
