@@ -24,7 +24,8 @@ accepted k a trace lefts e h =
     let right = trace_right k a trace 0 (sym e) in
     record { sizes = right.0; short = right.1; room = omega (arith, right.1) }
 
-counts_number : (n k a : ℕ) (trace : List ℕ) → (n ≡ 0 → ⊥) → record { refusal = n; bundles = 0; loads = 0 } ≡ counts_by n k a trace
+-- a refusal is zero in every other field
+pub counts_number : (n k a : ℕ) (trace : List ℕ) → (n ≡ 0 → ⊥) → record { refusal = n; bundles = 0; loads = 0 } ≡ counts_by n k a trace
 counts_number zero k a trace z = absurd (z refl)
 counts_number (suc n) k a trace z = refl
 
@@ -36,7 +37,7 @@ pub counts_served : (k a : ℕ) (trace : List ℕ) (counts : Totals) → 0 ≡ t
     → counts.loads ≡ min_loads k a trace → totals_answer (Ok counts) ≡ counts_of k a trace
 counts_served k a trace counts z e f = rw (← z, e, f) refl
 
-scheduled_refused : (n k a : ℕ) (trace out : List ℕ) → (n ≡ 0 → ⊥)
+pub scheduled_refused : (n k a : ℕ) (trace out : List ℕ) → (n ≡ 0 → ⊥)
     → (record { refusal = n; bundles = 0; loads = 0; length = 0 } ≡ scheduled_by n k a trace) × (out ≡ bytes_by n k a trace out)
 scheduled_refused zero k a trace out z = absurd (z refl)
 scheduled_refused (suc n) k a trace out z = (refl, refl)
@@ -63,11 +64,15 @@ pub scheduled_whole : (k a bundles loads size : ℕ) (trace out out' : List ℕ)
 scheduled_whole k a bundles loads size trace out out' e f g h p = rw (bytes_enough k a trace out (omega arith)) (rw (e, f, g) refl, p)
 
 -- and behind refusals 1, 2 and 3
+pub schedule_number : (k a n : ℕ) (trace out : List ℕ) → n ≡ trace_refusal k a trace 0 → (n ≡ 0 → ⊥)
+    → (record { refusal = n; bundles = 0; loads = 0; length = 0 } ≡ scheduled_of k a trace out) × (out ≡ bytes_of k a trace out)
+schedule_number k a n trace out e z =
+    let f = trace_fall k a trace (bytes_refusal k a trace out) n e z in
+    rw f (scheduled_refused n k a trace out z)
+
 pub schedule_refused : (k a : ℕ) (trace out : List ℕ) (reason : Refusal) → number_of reason ≡ trace_refusal k a trace 0
     → (scheduled_answer (Err reason) ≡ scheduled_of k a trace out) × (out ≡ bytes_of k a trace out)
-schedule_refused k a trace out reason e =
-    let f = trace_fall k a trace (bytes_refusal k a trace out) (number_of reason) e (number_above reason) in
-    rw f (scheduled_refused (number_of reason) k a trace out (number_above reason))
+schedule_refused k a trace out reason e = schedule_number k a (number_of reason) trace out e (number_above reason)
 
 pub schedule_passes : (k a : ℕ) (trace out out' : List ℕ) (r : ScheduledAnswer) → 0 ≡ trace_refusal k a trace 0
     → (r ≡ scheduled_by (bytes_refusal k a trace out) k a trace) × (out' ≡ bytes_by (bytes_refusal k a trace out) k a trace out)

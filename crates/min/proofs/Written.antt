@@ -27,7 +27,7 @@ use Rattle.keys.specs.Keys.{page_of, key, kind_in, serve_keys, bundle_of, bundle
 use Rattle.keys.proofs.Order.{Pages}
 use Rattle.min.specs.Calls.{min_schedule}
 use Rattle.min.specs.inner.Run.{PassReady, Writing, EvRoom, BundleRoom}
-use Rattle.min.proofs.Model.{best_same, bundles_same, kept_none}
+use Rattle.min.proofs.Model.{take_map, best_same, bundles_same, kept_none}
 use Rattle.min.proofs.ReadBack.{schedule_long}
 use Rattle.min.proofs.Turn.{count_kinds, room, standing_starts, stands, bundles_now, bundles_turn}
 
@@ -40,12 +40,13 @@ pages_turn i held pages₀ pages page h g e f =
     let n = length-map held page_of in
     rw (e, d) (over_turn (map page_of held) pages₀ i (omega arith) g)
 
-pub pages_done : (i : ℕ) (held pages₀ pages : List ℕ) → i ≡ length held → pages ≡ over (map page_of held) pages₀ i
-    → take (length held) pages ≡ map page_of held
+pub pages_done : (i a : ℕ) (held pages₀ pages : List ℕ) → i ≡ a → a ≤ length held → pages ≡ over (map page_of held) pages₀ i
+    → take a pages ≡ map page_of (take a held)
 unfolding over
-pages_done i held pages₀ pages m h =
-    let n : length (map page_of held) ≡ length held = length-map held page_of in
-    rw (h, m, take_all (length held) (map page_of held) (omega arith)) (take_at (map page_of held) (drop (length held) pages₀) (length held) n)
+pages_done i a held pages₀ pages m h e =
+    let n = length-map held page_of in
+    rw (e, m)
+    (take_at (take a (map page_of held)) (drop a pages₀) a (length-take-le a (map page_of held) (omega arith)) ∙ take_map page_of a held)
 
 -- One EV
 
@@ -109,6 +110,19 @@ pub puts_none : (outcome : Outcome) (a t at : ℕ) (keys out : List ℕ) → (ou
 puts_none Hit a t at keys out e = (omega arith, placed_none out at)
 puts_none Load a t at keys out e = (omega arith, placed_none out at)
 puts_none LoadAfterBundle a t at keys out e = absurd (e refl)
+
+-- the same by the kind
+pub puts_hit : (kind : Kind) (a t at : ℕ) (keys out : List ℕ) → kind ≡ hit
+    → (at ≡ at + length (joined entry_bytes (bundle_of kind a t keys [])))
+    × (out ≡ placed out at (joined entry_bytes (bundle_of kind a t keys [])))
+puts_hit kind a t at keys out e = rw e (omega arith, placed_none out at)
+
+pub puts_load : (kind : Kind) (a t at : ℕ) (keys out : List ℕ) → kind ≡ load
+    → (at ≡ at + length (joined entry_bytes (bundle_of kind a t keys [])))
+    × (out ≡ placed out at (joined entry_bytes (bundle_of kind a t keys [])))
+puts_load kind a t at keys out e = rw e (omega arith, placed_none out at)
+
+pub ruleset puts_rules = (puts_hit, puts_load)
 
 module _ (a t at : ℕ) (keys out : List ℕ) (r : BundleRoom bundled a t at keys out) where
   bundle_length : length (take a keys) ≡ a
