@@ -13,7 +13,7 @@ use Rattle.lists.proofs.Choice.{tests, cases}
 use Rattle.lists.proofs.Pages.{count_length}
 use Rattle.lists.proofs.Stable.{length_behind}
 use Rattle.paging.specs.Policy.{Kind, hit, load, bundled, is_bundled, is_load}
-use Rattle.next_use.specs.Left.{left}
+use Rattle.next_use.specs.Left.{left, lefts_of}
 use Rattle.next_use.proofs.Chains.{lefts_at, length_lefts}
 use Rattle.keys.specs.Keys.{key_of, less_near, key, last_of, kind_in, serve_keys, kinds_of, bundle_of, bundles_of, Room}
 use Rattle.keys.proofs.Order.{left_now}
@@ -46,8 +46,11 @@ served_fits k a x next keys h s f b =
     (λ d. omega (arith, length_behind less_near next (drop a keys), length-drop a keys))
 
 -- every request has its left
+pub lefts_reach : (trace lefts : List ℕ) → take (length trace) lefts ≡ lefts_of trace → length trace ≤ length lefts
+lefts_reach trace lefts filled = omega (arith, ap length filled, length-take (length trace) lefts, length_lefts trace)
+
 pub lefts_long : (k a : ℕ) (trace lefts : List ℕ) → PassReady k a trace lefts → length trace ≤ length lefts
-lefts_long k a trace lefts ready = omega (arith, ap length ready.filled, length-take (length trace) lefts, length_lefts trace)
+lefts_long k a trace lefts ready = lefts_reach trace lefts ready.filled
 
 -- Request t: the keys of its page, as the code makes them
 

@@ -41,6 +41,7 @@ impl<'a> Pass<'a> {
     }
 
     // What request t is, by the keys before it, and the key that its page has from then on.
+    #[tactic(auto, using(crate::proofs::Turn::lefts_reach))]
     pub(crate) fn asked(self, held: &Buffer, t: usize) -> (Outcome, u64)
         requires { t < length self.trace.now }
         ensures { (kind_of_outcome result.0 ≡ kind_in self.entry.k (key (drop t self.entry.trace.now) (get_or self.entry.trace.now t 0)) held.now)

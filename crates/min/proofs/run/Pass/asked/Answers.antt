@@ -1,12 +1,7 @@
-use native.Mathlib.Omega.{arith}
 use mathlib.Core.Path.{ap, ◌∙◌}
 use Rattle.keys.specs.Keys.{kind_in}
-use Rattle.min.proofs.Turn.{lefts_long, key_present, key_next}
+use Rattle.min.proofs.Turn.{key_present, key_next}
 use Rattle.min.proofs.run.Pass.asked.Goals as goal
-
-pub bounds-self-t-2 : goal.bounds-self-t-2
-bounds-self-t-2 c =
-    omega (arith, lefts_long c.args.self.k c.args.self.a c.args.self.trace.now c.args.self.lefts.now c.args.self.ready, c.requires)
 
 pub returns : goal.returns
 returns c =
