@@ -1,5 +1,5 @@
 -- Laws behind the operations on lent lists: the first place of a page, a list that grows at its end, writing along a list.
-use Prim.Native.Nat.{ℕ, suc, ◌+◌, ◌-◌, ◌≤◌, ◌<◌}
+use Prim.Native.Nat.{ℕ, suc, ◌+◌, ◌-◌, ◌≤◌, ◌<◌, min}
 use native.Mathlib.Nat.{add-zero}
 use native.Mathlib.Numerals.{add-one}
 use native.Mathlib.Omega.{arith}
@@ -7,14 +7,14 @@ use mathlib.Core.Bool.{Bool, true, false, not, ◌||◌}
 use mathlib.Core.List.{List, [], ◌∷◌, ◌++◌, append_assoc, append-nil}
 use mathlib.Core.Path.{◌≡◌, refl, sym, ap, ◌∙◌}
 use lib.Dec.{eqb, ltb, leb-suc-suc}
-use lib.ListN.{length, take, drop, get_or, set, length-append, length-take, length-drop, length-replicate, drop_of_length-le, take-append-drop}
-use lib.Seq.{drop-drop, drop-cons, take-suc, take_all, length-take-le, set_at, get_or-append-add, get_or-drop}
+use lib.ListN.{length, take, drop, get_or, set, replicate, length-append, length-take, length-drop, length-replicate, drop_of_length-le, take-append-drop}
+use lib.Seq.{paste, drop-drop, drop-cons, take-suc, take_all, length-take-le, set_at, get_or-append-add, get_or-drop, get_or-take}
 use mir.Val.{bool_byte}
 use borrow.Author.Tests.{eq-eqb, ne_eqb, eqb-true, lt-ltb, not-true}
 use Rattle.lists.specs.Choice.{◌and◌, ◌or◌}
 use Rattle.lists.specs.Pages.{mem, distinct, to_end}
-use Rattle.lists.specs.Places.{place, moved_to_end, first_dropped, over}
-use Rattle.lists.proofs.Choice.{cases, split, clash, and_l, and_r, and_false_r, or_split, eqb_sym}
+use Rattle.lists.specs.Places.{place, moved_to_end, first_dropped, over, pasted}
+use Rattle.lists.proofs.Choice.{tests, cases, split, clash, and_l, and_r, and_false_r, or_split, eqb_sym}
 use Rattle.lists.proofs.Pages.{without_absent}
 
 -- The first place of a page
@@ -140,20 +140,66 @@ over_ahead s d xs i j e hs h =
     ∙ get_or-drop i d (j - i) 0
     ∙ ap (λ (x : ℕ). get_or d x 0) (omega arith)
 
--- An entry moved to the end: the places from it on turned by one
+-- An entry moved to the end: the later ones copied down a place, and a store in the last
 
-pub moved_by_turning : {A : Type 0} (at : ℕ) (xs ys : List A) → at < length xs
-    → ys ≡ drop 1 (take (length xs - at) (drop at xs)) ++ take 1 (take (length xs - at) (drop at xs))
-    → take at xs ++ (ys ++ drop (length xs - at) (drop at xs)) ≡ moved_to_end at xs
-moved_by_turning {A = A} at xs ys h e =
-    let n : length (drop at xs) ≡ length xs - at = length-drop at xs in
-    rw (e, take_all (length xs - at) (drop at xs) (omega arith), drop_of_length-le (drop at xs) {i = length xs - at} (omega arith), drop-drop 1 at xs, add-one at)
-    (ap (λ (l : List A). take at xs ++ l) (append-nil _) ∙ sym (append_assoc (take at xs) (drop (suc at) xs) (take 1 (drop at xs))))
+pub moved_by_copying : {A : Type 0} (at : ℕ) (e : A) (xs ys : List A) → at < length xs → e ≡ get_or xs at e
+    → ys ≡ paste xs at (drop (at + 1) xs) (length xs - (at + 1)) → set ys (length xs - 1) e ≡ moved_to_end at xs
+moved_by_copying at e xs ys h g told =
+    let n : length (drop (suc at) xs) ≡ length xs - suc at = length-drop (suc at) xs in
+    let whole : take (length xs - suc at) (drop (suc at) xs) ≡ drop (suc at) xs = take_all (length xs - suc at) (drop (suc at) xs) (omega arith) in
+    let end : at + (length xs - suc at) ≡ length xs - 1 = omega arith in
+    let z = get_or xs (length xs - 1) e in
+    let none : drop (suc (length xs - 1)) xs ≡ [] = drop_of_length-le xs {i = suc (length xs - 1)} (omega arith) in
+    let last : drop (length xs - 1) xs ≡ z ∷ [] = drop-cons xs (length xs - 1) e (omega arith) ∙ rw none refl in
+    let others = take at xs ++ drop (suc at) xs in
+    let many : length others ≡ length xs - 1 = simp (length-append, length-take, length-drop) (omega arith) in
+    let shape : ys ≡ others ++ (z ∷ []) = told ∙ rw (add-one at, whole, end, last) refl in
+    let moved : take 1 (drop at xs) ≡ e ∷ [] = rw (drop-cons xs at e h, ← g) refl in
+    rw (shape, moved) (set_at others z [] e (length xs - 1) many)
+
+-- nothing moves where there is no such place
+pub moved_none : {A : Type 0} (at : ℕ) (xs : List A) → length xs ≤ at → xs ≡ moved_to_end at xs
+moved_none at xs h =
+    rw (take_all at xs h, drop_of_length-le xs {i = suc at} (omega arith), drop_of_length-le xs {i = at} h) (simp append-nil)
+
+-- The first ones gone: where all of them go, zeros are left
+
+pub dropped_all : (n : ℕ) (xs : List ℕ) → length xs ≤ n → replicate (length xs) 0 ≡ first_dropped n xs
+dropped_all n xs h = let e : min n (length xs) ≡ length xs = omega arith in rw (drop_of_length-le xs h, e) refl
 
 -- Entries copied over a front
 
+pub pasted_whole : {A : Type 0} (from to : List A) → length from ≤ length to → take (length from) from ++ drop (length from) to ≡ pasted from to
+pasted_whole from to h = rw (take_all (length from) from (omega arith), take_all (length to) from h) refl
+
+pub pasted_part : {A : Type 0} (from to : List A) → length to ≤ length from → take (length to) from ++ drop (length to) to ≡ pasted from to
+pasted_part from to h = rw (drop_of_length-le to {i = length to} (omega arith), drop_of_length-le to {i = length from} h) refl
+
 pub put_done : (from to xs : List ℕ) (n i : ℕ) → xs ≡ over from to i → i ≤ n → n ≤ i → xs ≡ take n from ++ drop n to
 put_done from to xs n i e h g = let same : n ≡ i = omega arith in e ∙ over_is from to i ∙ rw same refl
+
+-- the same entry by entry
+pub copied_none : {A : Type 0} (from to : List A) → to ≡ take 0 from ++ drop 0 to
+copied_none from to = refl
+
+pub copied_next : {A : Type 0} (from to xs : List A) (n i : ℕ) (entry : A) → xs ≡ take i from ++ drop i to → i < length (take n from) → i < length to
+    → entry ≡ get_or (take n from) i entry → set xs i entry ≡ take (i + 1) from ++ drop (i + 1) to
+copied_next from to xs n i entry e h room is =
+    let front : i < length from = omega (arith, length-take n from) in
+    let here : get_or from i entry ≡ entry = sym (is ∙ get_or-take n from i entry (omega (arith, length-take n from))) in
+    let next : take (suc i) from ≡ take i from ++ (entry ∷ []) = take-suc from i entry front ∙ rw here refl in
+    rw (e, add-one i, next, drop-cons to i entry room)
+    (set_at (take i from) (get_or to i entry) (drop (suc i) to) entry i (length-take-le i from (omega arith)) ∙ sym (append_assoc (take i from) (entry ∷ []) (drop (suc i) to)))
+
+pub copied_all : {A : Type 0} (from to xs : List A) (n i : ℕ) → xs ≡ take i from ++ drop i to → n ≡ min (length from) (length to)
+    → length (take n from) ≤ i → i ≤ length (take n from) → xs ≡ pasted from to
+copied_all from to xs n i e least h g =
+    let some : i ≡ n = omega (arith, length-take n from) in
+    e ∙ cases (ltb (length to) (length from))
+    (λ t. let all : i ≡ length to = omega tests in rw all (pasted_part from to (omega tests)))
+    (λ t. let all : i ≡ length from = omega tests in rw all (pasted_whole from to (omega tests)))
+
+pub ruleset copy_rules = (copied_none, copied_next, copied_all, length-take)
 
 -- What these leave of the length
 

@@ -3,12 +3,15 @@ ghost use Rattle.std.specs.Prelude.{◌≡◌, length, replicate};
 ghost use Rattle.lists.specs.Places.{moved_to_end, first_dropped, pasted};
 
 // The entry at the place goes to the end of the list, and each later one moves down a place.
-#[tactic(auto, using(crate::proofs::Leaves::moved_by_turning))]
+#[tactic(auto, using(crate::proofs::Leaves::moved_by_copying))]
 pub fn to_end<T: Copy>(list: &mut [T], at: usize)
     ensures { list.new ≡ moved_to_end at list.old }
 {
     if at < list.len() {
-        list[at..].rotate_left(1);
+        let entry = list[at];
+        let last = list.len() - 1;
+        list.copy_within(at + 1.., at);
+        list[last] = entry;
     }
 }
 
@@ -30,9 +33,13 @@ pub fn fill_zero(pages: &mut [u32])
 }
 
 // As many entries of the first list as the second has room for go into its first places.
+#[tactic(auto, using(crate::proofs::Leaves::copy_rules))]
 pub fn copy<T: Copy>(from: &[T], to: &mut [T])
     ensures { to.new ≡ pasted from.now to.old }
 {
     let n = from.len().min(to.len());
-    to[..n].copy_from_slice(&from[..n]);
+    // A loop: `copy_from_slice` would want `memmove` from outside.
+    for (i, entry) in from[..n].iter().enumerate() {
+        to[i] = *entry;
+    }
 }
