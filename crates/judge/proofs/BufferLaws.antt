@@ -17,7 +17,7 @@ use Rattle.wire.specs.Numbers.{num32, nums32}
 
 -- One page taken out
 
-has_law : (p n r : ℕ) (held : List ℕ) → n ≤ length held → r ≡ place p (take n held) → ltb r n ≡ mem p (take n held)
+pub has_law : (p n r : ℕ) (held : List ℕ) → n ≤ length held → r ≡ place p (take n held) → ltb r n ≡ mem p (take n held)
 has_law p n r held h e = rw (e, mem_place p (take n held), length-take-le n held h)
 
 erase_gap : (p : ℕ) (xs : List ℕ) → place p xs < length xs → erase p xs ≡ take (place p xs) xs ++ drop (suc (place p xs)) xs
@@ -47,7 +47,7 @@ taken_out p n r held moved after h e l q w =
 
 -- A bundle's pages, one by one
 
-next_page : (s : List ℕ) (at left : ℕ) → 0 < left → nums32 left (drop at s) ≡ num32 (drop at s) ∷ nums32 (left - 1) (drop (at + 4) s)
+pub next_page : (s : List ℕ) (at left : ℕ) → 0 < left → nums32 left (drop at s) ≡ num32 (drop at s) ∷ nums32 (left - 1) (drop (at + 4) s)
 next_page s at zero h = absurd (omega arith)
 next_page s at (suc left) h =
     let e : suc left - 1 ≡ left = omega arith in

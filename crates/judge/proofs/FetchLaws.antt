@@ -25,7 +25,7 @@ fetched_snoc s from (suc count) =
     rw (e, d) (ap (λ (l : List ℕ). num32 (drop (from + 6) s) ∷ l) (fetched_snoc s (from + 10) count))
 
 -- the first of them, and the rest
-first_fetch : (s : List ℕ) (at left : ℕ) → 0 < left → fetched_pages s at left ≡ num32 (drop (at + 6) s) ∷ fetched_pages s (at + 10) (left - 1)
+pub first_fetch : (s : List ℕ) (at left : ℕ) → 0 < left → fetched_pages s at left ≡ num32 (drop (at + 6) s) ∷ fetched_pages s (at + 10) (left - 1)
 first_fetch s at zero h = absurd (omega arith)
 first_fetch s at (suc left) h = let e : suc left - 1 ≡ left = omega arith in rw e
 

@@ -7,7 +7,7 @@ use mathlib.Core.Bool.{Bool, true, false, not, ◌||◌}
 use mathlib.Core.List.{List, [], ◌∷◌, ◌++◌, append_assoc, append-nil}
 use mathlib.Core.Path.{◌≡◌, refl, sym, ap, ◌∙◌}
 use lib.Dec.{eqb, ltb, leb-suc-suc}
-use lib.ListN.{length, take, drop, get_or, set, replicate, length-append, length-take, length-drop, length-replicate, drop_of_length-le, take-append-drop}
+use lib.ListN.{length, take, drop, get_or, set, replicate, length-append, length-take, length-drop, length-replicate, get_or-replicate, drop_of_length-le, take-append-drop}
 use lib.Seq.{paste, drop-drop, drop-cons, take-suc, take_all, length-take-le, set_at, get_or-append-add, get_or-drop, get_or-take}
 use mir.Val.{bool_byte}
 use borrow.Author.Tests.{eq-eqb, ne_eqb, eqb-true, lt-ltb, not-true}
@@ -139,6 +139,20 @@ over_ahead s d xs i j e hs h =
     ∙ get_or-append-add (take i s) (drop i d) (j - i) 0
     ∙ get_or-drop i d (j - i) 0
     ∙ ap (λ (x : ℕ). get_or d x 0) (omega arith)
+
+-- Zeros along a list
+
+pub zero_turn : (d xs : List ℕ) (i : ℕ) → xs ≡ over (replicate (length d) 0) d i → i < length d
+    → set xs i 0 ≡ over (replicate (length d) 0) d (i + 1)
+zero_turn d xs i e l =
+    let n = length-replicate {A = ℕ} (length d) 0 in
+    over_stored (replicate (length d) 0) d xs i 0 e (omega arith) l (sym (get_or-replicate (length d) i 0 0 l))
+
+pub zero_done : (d xs : List ℕ) (i : ℕ) → xs ≡ over (replicate (length d) 0) d i → length d ≤ i → xs ≡ replicate (length d) 0
+zero_done d xs i e l =
+    e ∙ over_all (replicate (length d) 0) d i (rw (length-replicate {A = ℕ} (length d) 0) l) l
+
+pub ruleset zero_rules = (over_none, zero_turn, zero_done)
 
 -- An entry moved to the end: the later ones copied down a place, and a store in the last
 

@@ -26,10 +26,14 @@ pub fn drop_first(pages: &mut [u32], n: usize)
 }
 
 // Zero in every place.
+#[tactic(auto, using(crate::proofs::Leaves::zero_rules))]
 pub fn fill_zero(pages: &mut [u32])
     ensures { pages.new ≡ replicate (length pages.old) 0 }
 {
-    pages.fill(0);
+    // A loop: `fill` clones its value into all places but the last, which it stores apart.
+    for i in 0..pages.len() {
+        pages[i] = 0;
+    }
 }
 
 // As many entries of the first list as the second has room for go into its first places.

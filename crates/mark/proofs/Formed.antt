@@ -6,13 +6,14 @@ use mathlib.Core.Bool.{Bool, true, false, not, ◌&&◌, ◌||◌}
 use mathlib.Core.List.{List, []}
 use mathlib.Core.Path.{◌≡◌, refl, sym, ap, ◌∙◌}
 use lib.Dec.{eqb, leb, ltb}
-use lib.ListN.{length, drop, get_or, drop_of_length-le}
+use lib.ListN.{length, take, drop, get_or, drop_of_length-le}
 use lib.Seq.{drop-cons}
-use borrow.Author.Tests.{eqb-true, eq-eqb, leb-true, le-leb, ltb-false, le-ltb, not-false}
+use borrow.Author.Tests.{eqb-true, eq-eqb, leb-true, le-leb, ltb-false, le-ltb, lt-leb, not-false}
 use Rattle.lists.specs.Choice.{◌and◌, ◌or◌}
-use Rattle.lists.proofs.Choice.{tests, cases, and_i, and_l, and_r, or_none, or_none_l, or_none_r}
+use Rattle.lists.proofs.Choice.{tests, cases, and_i, and_l, and_r, and_false_l, and_false_r, or_none, or_none_l, or_none_r}
+use Rattle.marking.specs.Lists.{rising, all_marks}
 use Rattle.mark.specs.Calls.{lists_refused}
-use Rattle.mark.specs.Formed.{record_formed, times_formed}
+use Rattle.mark.specs.Formed.{record_formed, buffer_formed, times_formed}
 use Rattle.mark.specs.Lent.{Lent}
 use Rattle.mark.specs.declared.MarkRun.{MarkRun}
 
@@ -131,3 +132,17 @@ times_end t i true ns ts e h told = sym told
 times_end t i false ns ts e h told =
     let past : length ns ≤ i = omega arith in
     let none : drop i ns ≡ [] = drop_of_length-le ns past in sym (told ∙ rw none refl)
+
+-- The cached pages
+
+pub buffer_many : (k n : ℕ) (cache marks : List ℕ) → k < n → false ≡ buffer_formed k n cache marks
+unfolding buffer_formed
+buffer_many k n cache marks h = sym (and_false_l _ _ (lt-leb _ _ h))
+
+pub buffer_unordered : (k n : ℕ) (cache marks : List ℕ) → rising (take n cache) ≡ false → false ≡ buffer_formed k n cache marks
+unfolding buffer_formed
+buffer_unordered k n cache marks e = sym (and_false_r _ _ (and_false_l _ _ e))
+
+pub buffer_marks : (k n : ℕ) (cache marks : List ℕ) → n ≤ k → rising (take n cache) ≡ true → all_marks (take n marks) ≡ buffer_formed k n cache marks
+unfolding buffer_formed ◌and◌
+buffer_marks k n cache marks h e = rw (le-leb n k h, e) refl
