@@ -161,6 +161,10 @@ pub all_none : (marks : List ℕ) → AllMarked marks []
 unfolding AllMarked
 all_none marks q m = clash false m refl
 
+pub length_marked : (marks : List ℕ) (p : ℕ) → length (with_mark marks p) ≡ length marks
+unfolding with_mark
+length_marked marks p = length_bit (with_bit marks (fold_of p)) (product_of p) ∙ length_bit marks (fold_of p)
+
 -- a page whose mark is not set is none of those marked
 pub unmarked : (marks pages : List ℕ) (p : ℕ) → AllMarked marks pages → false ≡ is_marked marks p → mem p pages ≡ false
 unfolding AllMarked

@@ -7,14 +7,15 @@ use mathlib.Core.List.{List, [], ◌∷◌, ◌++◌}
 use mathlib.Core.Path.{◌≡◌, refl, sym, ap, ◌∙◌}
 use lib.Bits.{bit_and}
 use lib.Dec.{eqb}
-use lib.ListN.{length, take, get_or, set}
+use lib.ListN.{length, take, get_or, set, replicate, length-replicate}
 use lib.Seq.{take-suc, get_or-set_same, get_or-set_other}
 use borrow.Author.Tests.{eq-eqb, ne_eqb, eqb-true, eqb-false}
 use Rattle.lists.specs.Choice.{◌or◌, ◌and◌}
 use Rattle.lists.specs.Pages.{mem, distinct}
 use Rattle.lists.proofs.Choice.{cases, split, clash, or_split, eqb_self}
 use Rattle.lists.proofs.Leaves.{mem_append, distinct_snoc, twice_at}
-use Rattle.repeats.specs.Chains.{chain_has, in_chain}
+use Rattle.lists.proofs.Parts.{zeros}
+use Rattle.repeats.specs.Chains.{chain_has, in_chain, Unlinked}
 use Rattle.repeats.specs.Slots.{slot_of}
 use Rattle.repeats.proofs.FreshLaws.{slot_le}
 
@@ -203,3 +204,14 @@ module _ (mask : ℕ) (pages heads before : List ℕ) (i at : ℕ) (h : i < leng
   found_new m l e =
       rw a
       (threaded_more mask pages heads before i h t m l (ap (λ (x : ℕ). in_chain pages before (get_or heads x 0) (get_or pages i 0)) (sym a) ∙ e))
+
+-- tables of zeros
+pub unlinked : (mask n m : ℕ) (pages : List ℕ) → mask < n → length pages ≤ m → length pages ≤ 65536
+    → Unlinked mask pages (replicate n 0) (replicate m 0)
+unlinked mask n m pages h l k =
+    record {
+      slots = rw (length-replicate {A = ℕ} n 0) h;
+      places = rw (length-replicate {A = ℕ} m 0) l;
+      limit = k;
+      none = λ c. zeros n c;
+    }

@@ -3,7 +3,7 @@
 ghost use Rattle.std.specs.Prelude.{◌<◌, ◌≡◌, length, replicate};
 ghost use Rattle.repeats.specs.Bits.{words, fold_of, product_of, bit_of, is_set, with_bit, is_marked, with_mark};
 
-const WORDS: usize = 65536;
+pub const WORDS: usize = 65536;
 
 #[derive(Drop)]
 pub struct Marks {
@@ -55,6 +55,7 @@ impl Marks {
     }
 
     // Whether the page's mark is set.
+    #[tactic(auto, using(crate::proofs::BitLaws::marked_is, crate::proofs::BitLaws::not_marked))]
     pub fn has(&self, page: u32) -> bool
         ensures { result ≡ is_marked self.now.bits page }
     {

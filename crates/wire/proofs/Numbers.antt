@@ -1,11 +1,22 @@
 -- Laws of numbers in bytes: what was written is read, what was read is what stands there, and how stores join.
 use Prim.Native.Nat.{ℕ, zero, suc, ◌+◌, ◌*◌, ◌/◌, ◌%◌, ◌<◌, ◌≤◌}
+use native.Mathlib.Nat.{add-zero}
+use native.Mathlib.Numerals.{add-one, add-two, add-three}
 use native.Mathlib.Omega.{arith}
 use mathlib.Core.List.{List, [], ◌∷◌, ◌++◌, append_assoc, append-nil}
 use mathlib.Core.Path.{◌≡◌, refl, sym, ap, ◌∙◌}
-use lib.ListN.{length, get_or, take, drop, length-append, length-take, length-drop, take-append-drop}
-use lib.Seq.{get_or-drop, drop-drop, take_at, drop_at, take-add}
+use lib.ListN.{length, get_or, take, drop, set, length-append, length-take, length-drop, take-append-drop}
+use lib.Seq.{get_or-drop, drop-drop, sets-eq, take_at, drop_at, take-add}
 use Rattle.wire.specs.Numbers.{Bytes, bytes16, bytes32, num16, num32, all_bytes32, nums32, placed}
+
+-- ---- reading at an offset
+
+pub num16_at : (s : List ℕ) (at : ℕ) → num16 (drop at s) ≡ get_or s at 0 + 256 * get_or s (at + 1) 0
+num16_at s at = simp (get_or-drop, add-zero)
+
+pub num32_at : (s : List ℕ) (at : ℕ)
+    → num32 (drop at s) ≡ get_or s at 0 + 256 * get_or s (at + 1) 0 + 65536 * get_or s (at + 2) 0 + 16777216 * get_or s (at + 3) 0
+num32_at s at = simp (get_or-drop, add-zero)
 
 -- ---- the round trip, both ways
 
@@ -104,6 +115,13 @@ all_bytes32_are (x ∷ xs) h i = bytes_append (bytes32 x) (all_bytes32 xs) (byte
 
 pub length_placed : (s : List ℕ) (at : ℕ) (b : List ℕ) → at + length b ≤ length s → length (placed s at b) ≡ length s
 length_placed s at b h = simp (length-append, length-take, length-drop) (omega arith)
+
+pub stored16 : (s : List ℕ) (at x y : ℕ) → at + 2 ≤ length s → set (set s at x) (at + 1) y ≡ placed s at (x ∷ y ∷ [])
+stored16 s at x y h = rw add-one (sets-eq (x ∷ y ∷ []) s at h)
+
+pub stored32 : (s : List ℕ) (at x y z w : ℕ) → at + 4 ≤ length s
+    → set (set (set (set s at x) (at + 1) y) (at + 2) z) (at + 3) w ≡ placed s at (x ∷ y ∷ z ∷ w ∷ [])
+stored32 s at x y z w h = rw (add-one, add-two, add-three) (sets-eq (x ∷ y ∷ z ∷ w ∷ []) s at h)
 
 pub placed_none : (s : List ℕ) (at : ℕ) → s ≡ placed s at []
 placed_none s at =
