@@ -55,11 +55,13 @@ fn walk(
     let mut s = heads[c];
     while s > 0 {
         let t = (s - 1) as usize;
+        // Read before `lefts` is written: the two lists may lie a multiple of a page of memory apart, and a read waits for such a write.
+        let earlier = before[t];
         let page = trace[t];
         let high = page as usize / HALVES;
         lefts[t] = told(trace, seen[high], page);
         seen[high] = (trace.len() - t) as u32;
-        s = before[t];
+        s = earlier;
     }
 }
 

@@ -13,7 +13,7 @@ slice_bounds-decide-end c =
 pub evict-requires : goal.evict-requires
 evict-requires c =
     let ready = ready_of c.args.run c.args.count c.args.cache.now c.args.evicted.now (sym c.in_ok-check.ensures) in
-    (omega (arith, ready.sizes.a_high, ready.cache_room), ready.evicted_room)
+    (omega (arith, ready.sizes.a_high, ready.cache_room), omega (arith, ready.evicted_room))
 
 pub answered-reply-requires : goal.answered-reply-requires
 answered-reply-requires c =
