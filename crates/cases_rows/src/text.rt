@@ -1,6 +1,7 @@
 // The numbers and lists of a row.
 ghost use Rattle.std.specs.Prelude.{◌≤◌, ◌<◌, IfSome, length};
 ghost use Rattle.io.specs.Counts.{IsPrefixLen};
+ghost use Rattle.cases_rows.specs.Rest.{IsRest};
 
 // The first place of a byte from an offset on, or the text's end.
 pub fn find(text: &[u8], from: usize, byte: u8) -> usize
@@ -30,7 +31,7 @@ struct Number<'a> {
 
 // The number whose first digits were read and go on at a text's start; of more than 32 bits the lower 32.
 fn read_number(text: &[u8], before: u32) -> Number<'_>
-    ensures { length result.behind.now ≤ length text.now }
+    ensures { IsRest result.behind.now text.now }
 {
     let mut value = before;
     for (i, b) in text.iter().enumerate() {
@@ -64,7 +65,7 @@ struct Token<'a> {
 }
 
 fn read_token(first: u8, behind: &[u8]) -> Token<'_>
-    ensures { length result.behind.now ≤ length behind.now }
+    ensures { IsRest result.behind.now behind.now }
 {
     if let Some(d) = digit(first) {
         let first = read_number(behind, d);
@@ -81,7 +82,7 @@ fn read_token(first: u8, behind: &[u8]) -> Token<'_>
 
 // A number that was read is one, or says how often the number behind its `*` comes.
 fn repeated(first: u32, behind: &[u8]) -> Token<'_>
-    ensures { length result.behind.now ≤ length behind.now }
+    ensures { IsRest result.behind.now behind.now }
 {
     if let Some((b'*', rest)) = behind.split_first() {
         let second = read_number(rest, 0);
@@ -120,8 +121,9 @@ pub struct Given<'a> {
 }
 
 // The list at a text's start, up to its `;` or the text's end; where there is no text, there is no list, and the kept one stays.
+#[tactic(auto, using(crate::proofs::Rests::rest_again))]
 pub fn list<'a>(text: &'a [u8], kept: usize, to: &mut [u32]) -> Given<'a>
-    ensures { length result.behind.now ≤ length text.now }
+    ensures { IsRest result.behind.now text.now }
 {
     if text.is_empty() {
         return Given {
