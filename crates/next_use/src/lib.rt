@@ -11,9 +11,13 @@ use paging::Sizes;
 // The values of the low half of a page, and of its high half: 16 bits each.
 const HALVES: usize = 65536;
 
+// The places of `before`: some more than requests, since whoever lends `lefts` has just as many. Two lists a multiple of a page of memory apart make
+// each read of the one wait for the write to the other at the same place.
+const BEFORE: usize = Sizes::TRACE_MAX + 32;
+
 // Chains the requests by the low half of their pages: heads has one more than the last request of each chain, before for each request
 // one more than the one before it.
-fn chain(trace: &[u32], heads: &mut [u32; HALVES], before: &mut [u32; Sizes::TRACE_MAX])
+fn chain(trace: &[u32], heads: &mut [u32; HALVES], before: &mut [u32; BEFORE])
     requires { Unchained trace.now heads.old }
     ensures { Chained (length trace.now) trace.now heads.new before.new }
 {
@@ -43,7 +47,7 @@ fn told(trace: &[u32], near: u32, page: u32) -> u32
 fn walk(
     trace: &[u32],
     heads: &[u32; HALVES],
-    before: &[u32; Sizes::TRACE_MAX],
+    before: &[u32; BEFORE],
     c: usize,
     seen: &mut [u32; HALVES],
     lefts: &mut [u32],
@@ -55,13 +59,11 @@ fn walk(
     let mut s = heads[c];
     while s > 0 {
         let t = (s - 1) as usize;
-        // Read before `lefts` is written: the two lists may lie a multiple of a page of memory apart, and a read waits for such a write.
-        let earlier = before[t];
         let page = trace[t];
         let high = page as usize / HALVES;
         lefts[t] = told(trace, seen[high], page);
         seen[high] = (trace.len() - t) as u32;
-        s = earlier;
+        s = before[t];
     }
 }
 
@@ -71,7 +73,7 @@ pub fn fill_lefts(trace: &[u32], lefts: &mut [u32])
     ensures { take (length trace.now) lefts.new ≡ lefts_of trace.now }
 {
     let mut heads = [0u32; HALVES];
-    let mut before = [0u32; Sizes::TRACE_MAX];
+    let mut before = [0u32; BEFORE];
     let mut seen = [0u32; HALVES];
     chain(trace, &mut heads, &mut before);
     for c in 0..HALVES {
