@@ -14,7 +14,7 @@ use borrow.Author.Tests.{eq-eqb, ne_eqb, eqb-true, lt-ltb, not-true}
 use Rattle.lists.specs.Choice.{◌and◌, ◌or◌}
 use Rattle.lists.specs.Pages.{mem, distinct, to_end}
 use Rattle.lists.specs.Places.{place, moved_to_end, first_dropped, over, pasted}
-use Rattle.lists.proofs.Choice.{tests, cases, split, clash, and_l, and_r, and_false_r, or_split, eqb_sym}
+use Rattle.lists.proofs.Choice.{cases, split, clash, and_l, and_r, and_false_r, or_split, eqb_sym}
 use Rattle.lists.proofs.Pages.{without_absent}
 
 -- The first place of a page
@@ -205,15 +205,13 @@ copied_next from to xs n i entry e h room is =
     rw (e, add-one i, next, drop-cons to i entry room)
     (set_at (take i from) (get_or to i entry) (drop (suc i) to) entry i (length-take-le i from (omega arith)) ∙ sym (append_assoc (take i from) (entry ∷ []) (drop (suc i) to)))
 
-pub copied_all : {A : Type 0} (from to xs : List A) (n i : ℕ) → xs ≡ take i from ++ drop i to → n ≡ min (length from) (length to)
-    → length (take n from) ≤ i → i ≤ length (take n from) → xs ≡ pasted from to
-copied_all from to xs n i e least h g =
-    let some : i ≡ n = omega (arith, length-take n from) in
-    e ∙ cases (ltb (length to) (length from))
-    (λ t. let all : i ≡ length to = omega tests in rw all (pasted_part from to (omega tests)))
-    (λ t. let all : i ≡ length from = omega tests in rw all (pasted_whole from to (omega tests)))
+pub copied_done : {A : Type 0} (from to xs : List A) (n i : ℕ) → xs ≡ take i from ++ drop i to → n ≤ length from
+    → length (take n from) ≤ i → i ≤ length (take n from) → xs ≡ take n from ++ drop n to
+copied_done from to xs n i e few least h = let all : i ≡ n = omega (arith, length-take n from) in e ∙ rw all refl
 
-pub ruleset copy_rules = (copied_none, copied_next, copied_all, length-take)
+pub ruleset put_rules = (copied_none, copied_next, copied_done, length-take)
+
+pub ruleset pasted_rules = (pasted_whole, pasted_part)
 
 -- What these leave of the length
 

@@ -1,5 +1,5 @@
 // Entries moved within a lent list, copied into one, and cleared.
-ghost use Rattle.std.specs.Prelude.{◌≡◌, length, replicate};
+ghost use Rattle.std.specs.Prelude.{◌≤◌, ◌++◌, ◌≡◌, length, take, drop, replicate};
 ghost use Rattle.lists.specs.Places.{moved_to_end, first_dropped, pasted};
 
 // The entry at the place goes to the end of the list, and each later one moves down a place.
@@ -36,12 +36,25 @@ pub fn fill_zero(pages: &mut [u32])
     }
 }
 
-// As many entries of the first list as the second has room for go into its first places.
-#[tactic(auto, using(crate::proofs::Leaves::copy_rules))]
+// As many entries of the first list as the second has room for go into its first places. Two cases: in the first a caller's array has its length known
+// when it is compiled, and needs no loop.
+#[tactic(auto, using(crate::proofs::Leaves::pasted_rules))]
 pub fn copy<T: Copy>(from: &[T], to: &mut [T])
     ensures { to.new ≡ pasted from.now to.old }
 {
-    let n = from.len().min(to.len());
+    if from.len() <= to.len() {
+        put(from, to, from.len());
+    } else {
+        put(from, to, to.len());
+    }
+}
+
+// The first n entries of the first list go into the first n places of the second.
+#[tactic(auto, using(crate::proofs::Leaves::put_rules))]
+fn put<T: Copy>(from: &[T], to: &mut [T], n: usize)
+    requires { (n ≤ length from.now) × (n ≤ length to.old) }
+    ensures { to.new ≡ take n from.now ++ drop n to.old }
+{
     // A loop: `copy_from_slice` would want `memmove` from outside.
     for (i, entry) in from[..n].iter().enumerate() {
         to[i] = *entry;

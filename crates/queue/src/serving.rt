@@ -126,7 +126,8 @@ pub(crate) fn evict(found: Found, a: usize, cache: &[u32], evicted: &mut [u32])
     }
 }
 
-// The cache list with the page in it. Of the n pages held the bundle's go.
+// The cache list with the page in it. Of the n pages held the bundle's go. Inlined: on a hit of the last page a call takes longer than what it does.
+#[inline(always)]
 pub(crate) fn settle(
     keeping: Keeping,
     found: Found,
