@@ -62,7 +62,8 @@ pub(crate) fn whole_outcome(rule: RuleApplied) -> Outcome
     }
 }
 
-// One request on the layer table, with t0 beside it. Where it has no room, nothing is done.
+// One request on the layer table, with t0 beside it. Where it has no room, nothing is done. Inlined, as `step` is: a call hands its answer over in memory.
+#[inline(always)]
 pub(crate) fn advance(
     k: u32,
     a: u32,
@@ -106,6 +107,7 @@ pub(crate) fn advance(
 
 // One request on all lists. Where the table has no room, nothing is done. C lends the lists one by one, and those that are written stay so here: a struct of
 // them was proved for three, with a clause more for each list in every function, that it is still the caller's.
+#[inline(always)]
 pub(crate) fn step(
     k: u32,
     a: u32,
