@@ -219,7 +219,7 @@ module _ (k a s p places used m : ℕ) (rows before after : List Row) (r : Resul
     where
       done : (o : Result Stepped RuleApplied) → IfOk o (λ t. DoneBy k a s p before t) → IfOk o (λ t. DoneBy k a s p rows t)
       done (Err rule) d = tt
-      done (Ok t) d = record { top_told = d.top_told ∙ rw same_rule refl; used_told = d.used_told ∙ rw same_rows refl }
+      done (Ok t) d = record { rule_told = d.rule_told ∙ same_rule; top_told = d.top_told ∙ rw same_rule refl; used_told = d.used_told ∙ rw same_rows refl }
 
 -- the same on the two lists
 pub stepped_lists : (k a : ℕ) (trace : List ℕ) (s p joins used i places m n : ℕ) (ns ps ns' ps' : List ℕ) (r : Result Stepped RuleApplied) → length ps ≡ places → length ns ≡ length ps

@@ -125,8 +125,8 @@ module _ (k a p : ℕ) (point : TablePoint) (x : Table) (R : TableReady k a poin
     pub full_is : is_err r ≡ ltb (length x.pages) (length (rows_after k a point.s p (rows_used x)))
     full_is = told.table.full_told ∙ ap (λ (l : List Row). ltb (length x.pages) (length l)) (sym same_rows)
 
-    pub rule_is : rule_of (rule_applied r) ≡ rule_in k point.s p (rows_used x)
-    rule_is = told.table.rule_told ∙ sym (used_rule k point.s p (rows_of x.numbers x.pages))
+    pub applied_is : rule_of (rule_applied r) ≡ rule_in k point.s p (rows_used x)
+    applied_is = told.table.rule_told ∙ sym (used_rule k point.s p (rows_of x.numbers x.pages))
 
     even' : length pages' ≡ length numbers'
     even' = told.pages_length ∙ sym told.numbers_length
@@ -167,6 +167,9 @@ module _ (k a p : ℕ) (point : TablePoint) (x : Table) (R : TableReady k a poin
 
   -- what a step that was done answers
   module _ (moved : table_stepped.Stepped) (done : DoneBy k a point.s p (rows_of x.numbers x.pages) moved) where
+    pub rule_is : rule_of moved.rule ≡ rule_in k point.s p (rows_used x)
+    rule_is = done.rule_told ∙ sym (used_rule k point.s p (rows_of x.numbers x.pages))
+
     pub top_is : moved.s ≡ top_after (rule_in k point.s p (rows_used x)) k a point.s
     top_is = done.top_told ∙ rw (used_rule k point.s p (rows_of x.numbers x.pages)) refl
 
@@ -212,7 +215,7 @@ module _ (k a p : ℕ) (point : TablePoint) (x : Table) (R : TableReady k a poin
           (Some (record { rule = moved.rule; after = record { s = moved.s; t = t; revealed = after; used = moved.used }; priority = rank }))
       advanced =
           let done = told.table.done_told in
-          let rule = rule_is k a p point x R t numbers' pages' times' (Ok moved) told in
+          let rule = applied_is k a p point x R t numbers' pages' times' (Ok moved) told in
           record {
             full_told = full_is k a p point x R t numbers' pages' times' (Ok moved) told;
             table_told = served;

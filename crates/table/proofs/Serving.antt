@@ -274,5 +274,5 @@ module _ (c : Change) (applied : RuleApplied) (k a i s p places n : ℕ) (ns ps 
     full_told = rw after_length (sym (le-ltb places (n + 1) (omega arith)));
     rule_told = rule_is;
     rows_told = told ∙ ap (table_of places) same;
-    done_told = record { top_told = et ∙ rw rule_is; used_told = sym after_length };
+    done_told = record { rule_told = rule_is; top_told = et ∙ rw rule_is; used_told = sym after_length };
   }

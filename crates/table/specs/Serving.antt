@@ -61,8 +61,9 @@ abbrev pub rule_applied : Result Stepped RuleApplied → RuleApplied
 rule_applied (Ok t) = t.rule
 rule_applied (Err rule) = rule
 
--- what a step that was done answers beside the rule
+-- what a step that was done answers
 pub record DoneBy (k a s p : ℕ) (before : List Row) (t : Stepped) : Type 0 where
+  pub rule_told : rule_of t.rule ≡ rule_in k s p before
   pub top_told : t.s ≡ top_after (rule_in k s p before) k a s
   pub used_told : t.used ≡ length (rows_after k a s p before)
 

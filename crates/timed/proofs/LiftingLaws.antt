@@ -461,7 +461,7 @@ module _ (k a s p t at used : ℕ) (ns ps ts : List ℕ) (R : TimedReady k a s p
         full_told = rw many (sym (le-ltb (length ps) n room));
         rule_told = sym rule_lift;
         rows_told = rows ∙ ap (table_of (length ps)) (sym after);
-        done_told = record { top_told = rw rule_lift; used_told = sym many };
+        done_told = record { rule_told = sym rule_lift; top_told = rw rule_lift; used_told = sym many };
       }) s X refl after times
 
   module _ (ns₁ ps₁ ts₁ : List ℕ) (T : TakenOut at used (get_or ns at 0) s ns ps ts ns₁ ps₁ ts₁) where
