@@ -165,16 +165,25 @@ module _ (k a p : ℕ) (point : TablePoint) (x : Table) (R : TableReady k a poin
           (ap (λ (n : ℕ). drop n x.times) (sym R.counted) ∙ R.blank) in
           told.times_told ∙ rw (served, first, ← same_rows, same) refl
 
+  -- s and the used places after a step, whatever the rule that is told
+  pub top_from : (moved : table_stepped.Stepped) → moved.s ≡ top_after (rule_in k point.s p (rows_of x.numbers x.pages)) k a point.s
+      → moved.s ≡ top_after (rule_in k point.s p (rows_used x)) k a point.s
+  top_from moved top = top ∙ rw (used_rule k point.s p (rows_of x.numbers x.pages)) refl
+
+  pub used_from : (moved : table_stepped.Stepped) → moved.used ≡ length (rows_after k a point.s p (rows_of x.numbers x.pages))
+      → moved.used ≡ length (rows_after k a point.s p (rows_used x))
+  used_from moved used = used ∙ ap (λ (l : List Row). length l) (sym (used_rows_lem k a point.s p (rows_of x.numbers x.pages)))
+
   -- what a step that was done answers
   module _ (moved : table_stepped.Stepped) (done : DoneBy k a point.s p (rows_of x.numbers x.pages) moved) where
     pub rule_is : rule_of moved.rule ≡ rule_in k point.s p (rows_used x)
     rule_is = done.rule_told ∙ sym (used_rule k point.s p (rows_of x.numbers x.pages))
 
     pub top_is : moved.s ≡ top_after (rule_in k point.s p (rows_used x)) k a point.s
-    top_is = done.top_told ∙ rw (used_rule k point.s p (rows_of x.numbers x.pages)) refl
+    top_is = top_from moved done.top_told
 
     pub used_is : moved.used ≡ length (rows_after k a point.s p (rows_used x))
-    used_is = done.used_told ∙ ap (λ (l : List Row). length l) (sym (used_rows_lem k a point.s p (rows_of x.numbers x.pages)))
+    used_is = used_from moved done.used_told
 
 -- As the code finds it
 
